@@ -1,0 +1,11 @@
+pub mod Back
+pub mod Cuts
+pub mod Later
+pub mod Mono
+pub mod Over
+pub mod Sound
+pub mod Trees
+pub mod Truer
+pub mod Unfold
+pub mod Sets
+pub mod Rows
