@@ -9,3 +9,4 @@ pub mod Truer
 pub mod Unfold
 pub mod Sets
 pub mod Rows
+pub mod Signals

@@ -1,7 +1,6 @@
 //! LTL formulas, the scales of their values, and the definitions that all contracts cite.
 pub mod formula;
 pub mod pair;
-pub mod probe;
 pub mod refusal;
 pub mod row;
 pub mod scale;

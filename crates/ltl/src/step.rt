@@ -7,3 +7,6 @@ pub struct Step {
 }
 
 mod sets;
+mod text;
+
+pub use text::StepDisplay;

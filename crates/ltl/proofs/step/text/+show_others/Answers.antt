@@ -1,0 +1,20 @@
+use mathlib.Core.Path.{_≡_, refl, sym, ap, _∙_}
+use Rattle.std.proofs.Writes.{wrote-none, put-more, put-is}
+use Rattle.ltl.specs.Shown.{after-others}
+use Rattle.ltl.proofs.Signals.{none-left, with-first, without-first}
+use Rattle.ltl.proofs.step.text.+show_others.Needs as need
+
+pub returns-then-k-ge64 : need.returns-then-k-ge64
+returns-then-k-ge64 g t c =
+    λ plain ok. rw (none-left 64 (c .args .k) (c .args .step .bits) (c .if-k-ge64 .taken)) (record { wrote = wrote-none (g .W·Write .took) _; plain = plain })
+
+pub returns-then-has : need.returns-then-has
+returns-then-has g t c = λ plain ok.
+    let e = with-first 64 (c .args .k) (c .args .step .bits) (c .if-k-ge64 .left) (sym (c .if-has .ensures tt)) in
+    let a = c .in-Continue-write .ensures tt .shows plain refl in
+    let b = c .show-others .ensures (a .plain) ok in
+    rw e (put-more (g .W·Write .took) _ _ _ _ _ a b)
+
+pub returns : need.returns
+returns g t c = λ plain ok.
+    rw (without-first 64 (c .args .k) (c .args .step .bits) (c .if-k-ge64 .left) (sym (c .if-has .ensures tt))) (c .show-others-2 .ensures plain ok)
