@@ -10,3 +10,6 @@ pub mod Unfold
 pub mod Sets
 pub mod Rows
 pub mod Signals
+pub mod Narrow
+pub mod Formulas
+pub mod Promises

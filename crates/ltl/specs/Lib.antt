@@ -14,3 +14,4 @@ pub mod Truer
 pub mod Shown
 pub mod TruthLaws
 pub mod PairLaws
+pub mod Promises

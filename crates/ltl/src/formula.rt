@@ -2,7 +2,7 @@
 ghost use mathlib.Core.Path.{_≡_};
 ghost use mathlib.Core.Bool.{true};
 ghost use Prim.Native.Nat.{ℕ, _<_, _≤_};
-ghost use lib.ListN.{getD};
+ghost use lib.ListN.{length, getD};
 ghost use Rattle.ltl.specs.declared.row.Row.the-variants.{Signal};
 ghost use Rattle.ltl.specs.Rows.{fits};
 use crate::row::Row;
@@ -15,6 +15,7 @@ pub struct Formula {
     rows: [Row; 64],
     len: usize,
     watch: usize,
+    ghost sized: { length rows ≡ 64 },
     ghost some_signal: { 1 ≤ width },
     ghost few_signals: { width ≤ 32 },
     ghost some_row: { 1 ≤ len },

@@ -41,7 +41,8 @@ fn all_fit(rows: &[Row], width: u8) -> bool
 /// A table that begins with these rows.
 fn filled(rows: &[Row]) -> [Row; 64]
     requires { ⌜ length (now rows) ≤ 64 ⌝ }
-    ensures { λ t. ⌜ take (length (now (rows .entry))) t ≡ now (rows .entry) ⌝ }
+    ensures begins { λ t. ⌜ take (length (now (rows .entry))) t ≡ now (rows .entry) ⌝ }
+    ensures sized { λ t. ⌜ length t ≡ 64 ⌝ }
 {
     let mut table = [Row::Signal(0); 64];
     for r in 0..rows.len() {
@@ -76,6 +77,7 @@ impl Formula {
     pub fn row_count(&self) -> usize
         ensures value { λ r. ⌜ r ≡ row-count (now (self .entry)) ⌝ }
         ensures within { λ r. ⌜ (1 ≤ r) × (r ≤ 64) ⌝ }
+        ensures counted { λ r. ⌜ r ≡ length (rows-of (now (self .entry))) ⌝ }
     {
         self.len
     }
@@ -91,7 +93,7 @@ impl Formula {
     /// The row with this number, if there is one.
     pub fn row(&self, r: usize) -> Option<Row>
         ensures value { λ x. ⌜ x ≡ cond (ltb r (row-count (now (self .entry)))) (Some (getD (rows-of (now (self .entry))) r (Signal 0))) None ⌝ }
-        ensures fits { λ x. ⌜ found x (λ row. Fits (width-of (now (self .entry))) r row) ⌝ }
+        ensures fits { λ x. ⌜ found x (λ row. (r < length (rows-of (now (self .entry)))) × Fits (width-of (now (self .entry))) r row) ⌝ }
     {
         if r >= self.len {
             return None;

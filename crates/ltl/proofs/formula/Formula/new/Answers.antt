@@ -14,8 +14,8 @@ ghost-result c =
     let w = c .args .width in
     let some : 1 ≤ w = omega arith in
     let row : 1 ≤ length rows = omega arith in
-    (some, (c .if-width-gt32 .left, (row, (c .if-rows-gt64 .left,
+    (c .filled .ensures .sized, (some, (c .if-width-gt32 .left, (row, (c .if-rows-gt64 .left,
       ((λ r h.
-        let e = sym (getD-take (length rows) (c .filled .result) r (Signal 0) h) ∙ ap (λ l. getD l r (Signal 0)) (c .filled .ensures) in
+        let e = sym (getD-take (length rows) (c .filled .result) r (Signal 0) h) ∙ ap (λ l. getD l r (Signal 0)) (c .filled .ensures .begins) in
         rw e (fits-test w r (getD rows r (Signal 0)) (c .if-not-all-fit .ensures tt r h)))
-      , (c .if-watch-rows .left, tt))))))
+      , (c .if-watch-rows .left, tt)))))))

@@ -1,5 +1,6 @@
 use mathlib.Core.Path.{sym, ap, _∙_}
-use Rattle.std.proofs.shelf.Lists.{getD-take}
+use native.Mathlib.Omega.{arith}
+use Rattle.std.proofs.shelf.Lists.{getD-take, length-take}
 use Rattle.std.proofs.shelf.Tests.{cond-below}
 use Rattle.std.specs.declared.option.Option.the-variants.{Some, None}
 use Rattle.ltl.specs.declared.row.Row.the-variants.{Signal}
@@ -13,5 +14,5 @@ returns c =
     let h = c .if-r-self .left in
     record {
       value = ap Some (sym (getD-take (f .len) (f .rows) r (Signal 0) h)) ∙ cond-below r (f .len) _ _ h;
-      fits = fits-tells _ _ _ (f .ordered r h);
+      fits = (omega (arith, length-take (f .len) (f .rows), f .sized, f .«few_rows»), fits-tells _ _ _ (f .ordered r h));
     }

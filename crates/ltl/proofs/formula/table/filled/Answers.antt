@@ -17,4 +17,4 @@ pub returns : need.returns
 returns c =
     let rows = c .args .rows .now in
     let z : c .loop-r .r ≡ length rows = omega arith in
-    rw z at (c .loop-r .inv .0) ∙ take-all (length rows) rows (omega arith)
+    record { begins = rw z at (c .loop-r .inv .0) ∙ take-all (length rows) rows (omega arith); sized = c .loop-r .inv .1 }

@@ -1,0 +1,31 @@
+-- What evaluation answers, and what it leaves.
+use mathlib.Core.Path.{_≡_}
+use mathlib.Core.List.{List}
+use mathlib.Core.Bool.{cond}
+use Prim.Native.Nat.{ℕ, _+_, _*_, _<_, _≤_}
+use lib.Dec.{leb}
+use lib.ListN.{length, getD, drop}
+use Rattle.std.specs.declared.result.Result.{Result}
+use Rattle.std.specs.declared.result.Result.the-variants.{Ok, Err}
+use Rattle.ltl.specs.Scales.{Ops}
+use Rattle.ltl.specs.Formulas.{row-count}
+use Rattle.ltl.specs.declared.formula.Formula.{Formula}
+use Rattle.values.specs.Grids.{place}
+use Rattle.values.specs.Tables.{meaning}
+use Rattle.values.specs.declared.fault.GridTooSmall.{GridTooSmall}
+
+-- question 17: are there cells for every row at every position from 1 to n + 1?
+abbrev pub evaluated : ℕ → ℕ → ℕ → Result (Unit {0}) GridTooSmall
+evaluated rows n cells = cond (leb (rows * (n + 1)) cells) (Ok tt) (Err (record {}))
+
+-- each cell holds its row's value at its position, the last column tells the value at every later position,
+-- and what lies past the cells is as it was
+pub record Filled {V : Type 0} (o : Ops V) (steps : List ℕ) (f : Formula) (before after : List V) : Type 0 where
+  pub cells : (r i : ℕ) → r < row-count f → 1 ≤ i → i ≤ length steps + 1 → getD after (place (length steps + 1) r i) (o .no) ≡ meaning o steps f r i
+  pub later : (r i : ℕ) → r < row-count f → length steps < i → getD after (place (length steps + 1) r (length steps + 1)) (o .no) ≡ meaning o steps f r i
+  pub size : length after ≡ length before
+  pub past : drop (row-count f * (length steps + 1)) after ≡ drop (row-count f * (length steps + 1)) before
+
+abbrev pub Left : {V : Type 0} → Ops V → List ℕ → Formula → List V → List V → Result (Unit {0}) GridTooSmall → Type 0
+Left o steps f before after (Ok v) = Filled o steps f before after
+Left o steps f before after (Err e) = after ≡ before

@@ -1,0 +1,4 @@
+pub mod Faults
+pub mod Grids
+pub mod Tables
+pub mod Answers
