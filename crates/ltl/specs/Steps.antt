@@ -23,3 +23,7 @@ step-at steps (suc k) = getD steps k 0
 -- the set that a step of the program is
 abbrev pub set-of : Step → ℕ
 set-of x = x .bits
+
+-- and the step that a set is
+abbrev pub step-from : ℕ → Step
+step-from s = record { bits = s }

@@ -4,6 +4,7 @@ ghost use Rattle.std.specs.declared.option.Option.the-variants.{Some};
 ghost use Rattle.recorder.specs.Faults.{record-refusal, open-refusal, shown-record-fault, shown-open-fault};
 use ltl::refusal::Part;
 use ltl::refusal::Refusal;
+use std::error::Error;
 use std::fmt;
 
 /// Why a step was not recorded.
@@ -67,3 +68,7 @@ pub impl fmt::Display for OpenFault as OpenFaultDisplay {
         }
     }
 }
+
+pub impl Error for RecordFault as RecordFaultError {}
+
+pub impl Error for OpenFault as OpenFaultError {}

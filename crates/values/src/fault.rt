@@ -4,6 +4,7 @@ ghost use Rattle.std.specs.declared.option.Option.the-variants.{Some};
 ghost use Rattle.values.specs.Faults.{grid-refusal, shown-grid-fault};
 use ltl::refusal::Part;
 use ltl::refusal::Refusal;
+use std::error::Error;
 use std::fmt;
 
 /// A grid with fewer than R x (n + 1) cells, which is not filled.
@@ -26,3 +27,5 @@ pub impl fmt::Display for GridTooSmall as GridTooSmallDisplay {
         f.write_str("the grid has too few cells")
     }
 }
+
+pub impl Error for GridTooSmall as GridTooSmallError {}

@@ -3,6 +3,7 @@ ghost use mathlib.Core.Path.{_≡_};
 ghost use mathlib.Core.Bool.{_||_, cond};
 ghost use mathlib.Core.Logic.{_↔_};
 ghost use Prim.Native.Nat.{ℕ, _^_, _<_, _≤_};
+ghost use lib.Bits.{bitOr};
 ghost use lib.Dec.{T, eqb, ltb};
 ghost use Rattle.std.specs.Options.{Cases as BySome};
 ghost use Rattle.ltl.specs.Steps.{has, Below, set-of};
@@ -40,7 +41,7 @@ impl Step {
 
     /// The step with one signal more, or nothing for a signal above 63.
     pub fn with(self, signal: u8) -> Option<Step>
-        ensures { λ r. ⌜ BySome r (64 ≤ signal) (λ s. (signal < 64) × ((k : ℕ) → has (set-of s) k ≡ (has (set-of self) k || eqb k signal))) ⌝ }
+        ensures { λ r. ⌜ BySome r (64 ≤ signal) (λ s. (signal < 64) × (set-of s ≡ bitOr (set-of self) (2 ^ signal)) × ((k : ℕ) → has (set-of s) k ≡ (has (set-of self) k || eqb k signal))) ⌝ }
     {
         if signal >= 64 {
             return None;
