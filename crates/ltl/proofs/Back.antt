@@ -9,7 +9,7 @@ use lib.Dec.{leb}
 use lib.ListN.{length, getD, take}
 use Rattle.std.proofs.shelf.Tests.{le-leb, lt-leb, cases-lt}
 use Rattle.ltl.specs.Steps.{has, step-at}
-use Rattle.ltl.specs.Scales.{Ops, meet}
+use Rattle.scales.specs.Scales.{Ops, meet}
 use Rattle.ltl.specs.Trees.{Tree, signal, not, or, next, until, eventually}
 use Rattle.ltl.specs.Values.{ahead, value}
 

@@ -10,17 +10,17 @@ use lib.ListN.{length, getD, take}
 use Rattle.std.proofs.shelf.Tests.{le-leb, lt-leb, cases-lt, cases-order, true≢false}
 use Rattle.std.proofs.shelf.Lists.{length-take-le, getD-take}
 use Rattle.ltl.specs.Steps.{has, step-at}
-use Rattle.ltl.specs.Scales.{Ops, meet}
-use Rattle.ltl.specs.Truths.{truth-ops, mirror, upper}
-use Rattle.ltl.specs.Pairs.{pair, pair-ops, least, most, one-more, Shape, true-after, false-after, both-numbers, never-false, never-true, neither}
+use Rattle.scales.specs.Scales.{Ops, meet}
+use Rattle.scales.specs.Truths.{truth-ops, mirror, upper}
+use Rattle.scales.specs.Pairs.{pair, pair-ops, least, most, one-more, Shape, true-after, false-after, both-numbers, never-false, never-true, neither}
 use Rattle.ltl.specs.Trees.{Tree, signal, not, or, next, until, eventually}
 use Rattle.ltl.specs.Values.{value}
 use Rattle.ltl.specs.Cuts.{Shapes, Cuts, Counted, FirstCut}
-use Rattle.ltl.specs.declared.truth.Truth.{Truth}
-use Rattle.ltl.specs.declared.truth.Truth.the-variants.{False, Undecided, True}
-use Rattle.ltl.specs.declared.pair.Count.{Count}
-use Rattle.ltl.specs.declared.pair.Count.the-variants.{Number, Infinite, Impossible}
-use Rattle.ltl.specs.declared.pair.Pair.{Pair}
+use Rattle.scales.specs.declared.truth.Truth.{Truth}
+use Rattle.scales.specs.declared.truth.Truth.the-variants.{False, Undecided, True}
+use Rattle.scales.specs.declared.pair.Count.{Count}
+use Rattle.scales.specs.declared.pair.Count.the-variants.{Number, Infinite, Impossible}
+use Rattle.scales.specs.declared.pair.Pair.{Pair}
 use Rattle.ltl.proofs.Back.{back, eventually-in, eventually-past, until-in, until-past, signal-in, signal-past}
 
 -- a count of the undecided: beyond the last of n steps, seen from i

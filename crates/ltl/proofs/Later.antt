@@ -8,16 +8,16 @@ use lib.Dec.{leb}
 use lib.ListN.{length, take}
 use Rattle.std.proofs.shelf.Tests.{le-leb}
 use Rattle.std.proofs.shelf.Lists.{take-all}
-use Rattle.ltl.specs.Truths.{truth-ops, mirror}
-use Rattle.ltl.specs.Pairs.{pair, pair-ops}
+use Rattle.scales.specs.Truths.{truth-ops, mirror}
+use Rattle.scales.specs.Pairs.{pair, pair-ops}
 use Rattle.ltl.specs.Trees.{Tree, not}
 use Rattle.ltl.specs.Values.{value}
 use Rattle.ltl.specs.Cuts.{Decide, Agree}
-use Rattle.ltl.specs.declared.truth.Truth.{Truth}
-use Rattle.ltl.specs.declared.truth.Truth.the-variants.{False, Undecided, True}
-use Rattle.ltl.specs.declared.pair.Count.{Count}
-use Rattle.ltl.specs.declared.pair.Count.the-variants.{Number, Infinite, Impossible}
-use Rattle.ltl.specs.declared.pair.Pair.{Pair}
+use Rattle.scales.specs.declared.truth.Truth.{Truth}
+use Rattle.scales.specs.declared.truth.Truth.the-variants.{False, Undecided, True}
+use Rattle.scales.specs.declared.pair.Count.{Count}
+use Rattle.scales.specs.declared.pair.Count.the-variants.{Number, Infinite, Impossible}
+use Rattle.scales.specs.declared.pair.Pair.{Pair}
 use Rattle.ltl.proofs.Cuts.{Fit, sat, vio, und, cut-pair, cut-far, fit, after-cut, near, not-und, never-low, mirrored}
 
 told-true : (n i : ℕ) (p : Pair) → Fit n i p → cut-pair n i p ≡ True → (a : ℕ) × (p ≡ pair (Number a) Impossible)

@@ -13,3 +13,4 @@ pub mod Signals
 pub mod Narrow
 pub mod Formulas
 pub mod Promises
+pub mod Examples

@@ -5,7 +5,7 @@ use mathlib.Core.Bool.{Bool, true}
 use Prim.Native.Nat.{ℕ, _≤_}
 use lib.ListN.{length}
 use Rattle.ltl.specs.Steps.{has, step-at}
-use Rattle.ltl.specs.Scales.{Ops, Laws}
+use Rattle.scales.specs.Scales.{Ops, Laws}
 use Rattle.ltl.specs.Trees.{Tree, signal, not, or, next, until, eventually}
 use Rattle.ltl.specs.Values.{value}
 

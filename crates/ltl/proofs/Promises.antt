@@ -4,7 +4,7 @@ use mathlib.Core.List.{List}
 use lib.ListN.{length}
 use Rattle.ltl.specs.Endless.{StepsBelow, SignalsBelow}
 use Rattle.ltl.specs.Promises.{TruthTold, PairTold, OrderTold}
-use Rattle.ltl.specs.Scales.{Ops, Laws}
+use Rattle.scales.specs.Scales.{Ops, Laws}
 use Rattle.ltl.specs.Trees.{Tree}
 use Rattle.ltl.specs.Formulas.{tree, width-of}
 use Rattle.ltl.specs.declared.formula.Formula.{Formula}

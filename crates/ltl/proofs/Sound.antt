@@ -10,15 +10,15 @@ use lib.ListN.{length, getD, take}
 use Rattle.std.proofs.shelf.Tests.{le-leb, lt-leb, cases-lt, true≢false, eq-eqb, ne-eqb, eqb-true, or-cases, or-left, or-right}
 use Rattle.std.proofs.shelf.Bits.{shr-shr, pow-add}
 use Rattle.ltl.specs.Steps.{has, step-at}
-use Rattle.ltl.specs.Scales.{Ops, meet}
-use Rattle.ltl.specs.Truths.{truth-ops, mirror, upper}
+use Rattle.scales.specs.Scales.{Ops, meet}
+use Rattle.scales.specs.Truths.{truth-ops, mirror, upper}
 use Rattle.ltl.specs.Trees.{Tree, signal, not, or, next, until, eventually}
 use Rattle.ltl.specs.Values.{value}
 use Rattle.ltl.specs.Paths.{Side, upright, turned, other, Reaches, reaches}
 use Rattle.ltl.specs.Cuts.{Decide}
 use Rattle.ltl.specs.Endless.{Holds, Continues, onward, step-of, Sound, Soundness, SignalsBelow, StepsBelow, OneSided, best, worst, Continuation, BothWays, Open}
-use Rattle.ltl.specs.declared.truth.Truth.{Truth}
-use Rattle.ltl.specs.declared.truth.Truth.the-variants.{False, Undecided, True}
+use Rattle.scales.specs.declared.truth.Truth.{Truth}
+use Rattle.scales.specs.declared.truth.Truth.the-variants.{False, Undecided, True}
 use Rattle.ltl.proofs.Back.{back, eventually-in, eventually-past, until-in, until-past, signal-in, signal-past}
 use Rattle.ltl.proofs.Cuts.{late}
 

@@ -11,7 +11,7 @@ use lib.ListN.{length, getD}
 use Rattle.std.proofs.shelf.Tests.{le-leb, lt-leb, cases-lt, cond-true, cond-false, and-parts, ltb-true}
 use Rattle.std.proofs.shelf.Lists.{getD-append-left, getD-push, length-push}
 use mathlib.Core.Logic.{_⊎_, inl, inr, ⊎-elim}
-use Rattle.ltl.specs.Scales.{Ops, meet}
+use Rattle.scales.specs.Scales.{Ops, meet}
 use Rattle.ltl.specs.Trees.{Tree, signal, not, or, next, until, eventually, tree-at, tree-of, trees-after, trees}
 use Rattle.ltl.specs.Rows.{fits, Fits}
 use Rattle.ltl.specs.Values.{signal-value, value}

@@ -9,7 +9,7 @@ use lib.ListN.{length, getD}
 use Rattle.std.proofs.shelf.Tests.{cases-lt}
 use Rattle.std.proofs.shelf.Lists.{getD-past}
 use Rattle.ltl.specs.Steps.{has, step-at}
-use Rattle.ltl.specs.Scales.{Ops, Laws}
+use Rattle.scales.specs.Scales.{Ops, Laws}
 use Rattle.ltl.specs.Trees.{Tree, signal, not, or, next, until, eventually}
 use Rattle.ltl.specs.Values.{Stays}
 use Rattle.ltl.proofs.Over.{Over}

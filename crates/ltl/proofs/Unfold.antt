@@ -8,7 +8,7 @@ use native.Mathlib.Numerals.{add-one}
 use lib.Dec.{leb}
 use lib.ListN.{length}
 use Rattle.std.proofs.shelf.Tests.{lt-leb}
-use Rattle.ltl.specs.Scales.{Ops, meet}
+use Rattle.scales.specs.Scales.{Ops, meet}
 use Rattle.ltl.specs.Trees.{Tree, signal, not, or, next, until, eventually}
 use Rattle.ltl.specs.Values.{value}
 use Rattle.ltl.proofs.Back.{eventually-in, eventually-past, until-in, until-past}

@@ -4,13 +4,13 @@ use mathlib.Core.Logic.{_↔_}
 use mathlib.Core.List.{List}
 use Prim.Native.Nat.{ℕ, _+_, _≤_, _<_}
 use lib.ListN.{length, take}
-use Rattle.ltl.specs.Truths.{truth-ops}
-use Rattle.ltl.specs.Pairs.{pair, pair-ops, Shape}
+use Rattle.scales.specs.Truths.{truth-ops}
+use Rattle.scales.specs.Pairs.{pair, pair-ops, Shape}
 use Rattle.ltl.specs.Trees.{Tree}
 use Rattle.ltl.specs.Values.{value}
-use Rattle.ltl.specs.declared.truth.Truth.{Truth}
-use Rattle.ltl.specs.declared.truth.Truth.the-variants.{False, True}
-use Rattle.ltl.specs.declared.pair.Count.the-variants.{Number, Impossible}
+use Rattle.scales.specs.declared.truth.Truth.{Truth}
+use Rattle.scales.specs.declared.truth.Truth.the-variants.{False, True}
+use Rattle.scales.specs.declared.pair.Count.the-variants.{Number, Impossible}
 
 -- the steps decide the formula at position i so: its three-valued value is v
 abbrev pub Decide : List ℕ → Tree → ℕ → Truth → Type 0

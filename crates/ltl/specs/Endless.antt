@@ -10,7 +10,7 @@ use Rattle.ltl.specs.Steps.{has, step-at}
 use Rattle.ltl.specs.Trees.{Tree, signal, not, or, next, until, eventually}
 use Rattle.ltl.specs.Paths.{Reaches, reaches, upright, turned}
 use Rattle.ltl.specs.Cuts.{Decide}
-use Rattle.ltl.specs.declared.truth.Truth.the-variants.{False, Undecided, True}
+use Rattle.scales.specs.declared.truth.Truth.the-variants.{False, Undecided, True}
 
 -- the formula holds at position i of the endless list w
 abbrev pub Holds : (ℕ → ℕ) → Tree → ℕ → Type 0

@@ -3,15 +3,11 @@ pub mod Rows
 pub mod Trees
 pub mod Tables
 pub mod Formulas
-pub mod Scales
-pub mod Truths
-pub mod Pairs
 pub mod Values
 pub mod Cuts
 pub mod Endless
 pub mod Paths
 pub mod Truer
 pub mod Shown
-pub mod TruthLaws
-pub mod PairLaws
 pub mod Promises
+pub mod Examples

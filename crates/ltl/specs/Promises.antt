@@ -3,12 +3,12 @@ use Prim.Native.Nat.{ℕ}
 use mathlib.Core.List.{List}
 use Rattle.ltl.specs.Cuts.{Decide, Counted, Agrees}
 use Rattle.ltl.specs.Endless.{Sound, OneSided, BothWays}
-use Rattle.ltl.specs.Pairs.{pair-ops, Shape}
-use Rattle.ltl.specs.Scales.{Ops}
+use Rattle.scales.specs.Pairs.{pair-ops, Shape}
+use Rattle.scales.specs.Scales.{Ops}
 use Rattle.ltl.specs.Trees.{Tree}
 use Rattle.ltl.specs.Truer.{Truer}
 use Rattle.ltl.specs.Values.{value}
-use Rattle.ltl.specs.declared.truth.Truth.the-variants.{Undecided}
+use Rattle.scales.specs.declared.truth.Truth.the-variants.{Undecided}
 
 -- a three-valued value: decided true it holds on every continuation, decided false on none,
 -- and undecided it goes both ways where no signal is reached upright and turned

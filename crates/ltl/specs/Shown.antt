@@ -1,4 +1,4 @@
--- How values are written, in the bytes of ASCII.
+-- How steps, rows and refusals are written, in the bytes of ASCII.
 use mathlib.Core.Bool.{cond}
 use mathlib.Core.List.{List, [], _∷_, _++_}
 use Prim.Native.Nat.{ℕ, zero, suc}
@@ -11,26 +11,6 @@ use Rattle.ltl.specs.declared.row.Row.the-variants.{Signal, Not, Or, Next, Unt
 use Rattle.ltl.specs.declared.refusal.Part.{Part}
 use Rattle.ltl.specs.declared.refusal.Part.the-variants.{Sheet, Recording, Patch, Watch}
 use Rattle.ltl.specs.declared.refusal.Refusal.{Refusal}
-use Rattle.ltl.specs.declared.truth.Truth.{Truth}
-use Rattle.ltl.specs.declared.truth.Truth.the-variants.{False, Undecided, True}
-use Rattle.ltl.specs.declared.pair.Count.{Count}
-use Rattle.ltl.specs.declared.pair.Count.the-variants.{Number, Infinite, Impossible}
-use Rattle.ltl.specs.declared.pair.Pair.{Pair}
-
-abbrev pub shown-truth : Truth → List ℕ
-shown-truth False = codes "false"
-shown-truth Undecided = codes "undecided"
-shown-truth True = codes "true"
-
--- a number, inf, or - for impossible
-abbrev pub shown-count : Count → List ℕ
-shown-count (Number a) = decimal a
-shown-count Infinite = codes "inf"
-shown-count Impossible = codes "-"
-
--- (s, f)
-abbrev pub shown-pair : Pair → List ℕ
-shown-pair p = codes "(" ++ (shown-count (p .s) ++ (codes ", " ++ (shown-count (p .f) ++ codes ")")))
 
 -- the signals of a step among the n numbers from k on, in rising order
 unfoldable pub signals-from : ℕ → ℕ → ℕ → List ℕ

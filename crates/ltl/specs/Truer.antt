@@ -5,7 +5,7 @@ use mathlib.Core.Bool.{true}
 use Prim.Native.Nat.{ℕ, _≤_}
 use lib.ListN.{length}
 use Rattle.ltl.specs.Steps.{has, step-at}
-use Rattle.ltl.specs.Scales.{Ops}
+use Rattle.scales.specs.Scales.{Ops}
 use Rattle.ltl.specs.Trees.{Tree}
 use Rattle.ltl.specs.Values.{value}
 use Rattle.ltl.specs.Paths.{Reaches, upright, turned}

@@ -1,8 +1,5 @@
-//! LTL formulas, the scales of their values, and the definitions that all contracts cite.
+//! LTL formulas and steps, and the definitions of values that all contracts cite.
 pub mod formula;
-pub mod pair;
 pub mod refusal;
 pub mod row;
-pub mod scale;
 pub mod step;
-pub mod truth;

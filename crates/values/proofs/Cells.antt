@@ -8,7 +8,7 @@ use lib.Dec.{leb}
 use lib.ListN.{length, getD}
 use Rattle.std.proofs.shelf.Tests.{cases-lt, le-leb, lt-leb, cond-true, cond-false}
 use mathlib.Core.Logic.{⊎-elim}
-use Rattle.ltl.specs.Scales.{Ops, meet}
+use Rattle.scales.specs.Scales.{Ops, meet}
 use Rattle.ltl.specs.Formulas.{tree}
 use Rattle.values.specs.Grids.{place, Inside, Known, Ready}
 use Rattle.values.specs.Tables.{meaning}

@@ -6,7 +6,7 @@ use native.Mathlib.Omega.{arith}
 use lib.ListN.{length, getD, set, drop}
 use denote.Ref.{now, name}
 use Rattle.std.proofs.shelf.Lists.{length-set, drop-set-lt}
-use Rattle.ltl.specs.Scales.{Ops}
+use Rattle.scales.specs.Scales.{Ops}
 use Rattle.values.specs.Grids.{place, Inside, Known, Ready}
 use Rattle.values.specs.Tables.{meaning, Held, Frame}
 use Rattle.ltl.specs.declared.formula.Formula.{Formula}

@@ -7,7 +7,7 @@ use lib.Dec.{leb}
 use lib.ListN.{length, getD, drop}
 use Rattle.std.specs.declared.result.Result.{Result}
 use Rattle.std.specs.declared.result.Result.the-variants.{Ok, Err}
-use Rattle.ltl.specs.Scales.{Ops}
+use Rattle.scales.specs.Scales.{Ops}
 use Rattle.ltl.specs.Formulas.{row-count}
 use Rattle.ltl.specs.declared.formula.Formula.{Formula}
 use Rattle.values.specs.Grids.{place}

@@ -4,7 +4,7 @@ use mathlib.Core.List.{List}
 use Prim.Native.Nat.{ℕ, _*_}
 use lib.ListN.{length, drop}
 use denote.Ref.{now, name}
-use Rattle.ltl.specs.Scales.{Ops}
+use Rattle.scales.specs.Scales.{Ops}
 use Rattle.ltl.specs.Formulas.{tree}
 use Rattle.ltl.specs.Values.{value}
 use Rattle.ltl.specs.declared.formula.Formula.{Formula}

@@ -5,13 +5,14 @@ ghost use Prim.Native.Nat.{ℕ, _+_, _<_, _≤_};
 ghost use lib.Dec.{leb};
 ghost use lib.ListN.{length, getD};
 ghost use denote.Ref.{name};
+ghost use Rattle.ltl.specs.Examples.{WorkedExamples};
 ghost use Rattle.ltl.specs.Formulas.{rows-of, row-count, width-of, tree};
-ghost use Rattle.ltl.specs.Pairs.{pair-ops};
+ghost use Rattle.scales.specs.Pairs.{pair-ops};
 ghost use Rattle.ltl.specs.Promises.{TruthTold, PairTold, OrderTold};
 ghost use Rattle.ltl.specs.Rows.{Fits};
 ghost use Rattle.ltl.specs.declared.row.Row.the-variants.{Signal};
 ghost use Rattle.ltl.specs.Steps.{step-at, set-of};
-ghost use Rattle.ltl.specs.Truths.{truth-ops};
+ghost use Rattle.scales.specs.Truths.{truth-ops};
 ghost use Rattle.ltl.specs.Values.{signal-value};
 ghost use Rattle.values.specs.Answers.{evaluated, Filled, Left};
 ghost use Rattle.values.specs.Grids.{place, Inside, Ready};
@@ -19,13 +20,13 @@ ghost use Rattle.values.specs.Tables.{meaning, Held, Frame};
 use super::Grid;
 use crate::fault::GridTooSmall;
 use ltl::formula::Formula;
-use ltl::pair::Pair;
-use ltl::pair::PairScale;
+use scales::pair::Pair;
+use scales::pair::PairScale;
 use ltl::row::Row;
-use ltl::scale::Scale;
+use scales::scale::Scale;
 use ltl::step::Step;
-use ltl::truth::Truth;
-use ltl::truth::TruthScale;
+use scales::truth::Truth;
+use scales::truth::TruthScale;
 use recorder::recording::Recording;
 
 /// Row r of the formula.
@@ -147,14 +148,15 @@ pub fn truths<R: Recording>(formula: &Formula, recording: &R, cells: &mut [Truth
     ensures cells { λ v. ⌜ Left truth-ops (steps (now (recording .entry))) (now (formula .entry)) (now (cells .entry)) (now (cells .exit)) v ⌝ }
     ensures told { λ _. ⌜ (width-of (now (formula .entry)) ≡ width (now (recording .entry)) → (r i : ℕ) → 1 ≤ i → TruthTold (width-of (now (formula .entry))) (steps (now (recording .entry))) (tree (now (formula .entry)) r) i) ⌝ }
 {
-    evaluate(formula, recording, cells)
+    evaluate::<Truth, R>(formula, recording, cells)
 }
 
-/// The same at pairs of witness counts.
+/// The same at pairs of witness counts. With it stand the worked examples of the documentation.
 pub fn pairs<R: Recording>(formula: &Formula, recording: &R, cells: &mut [Pair]) -> Result<(), GridTooSmall>
     ensures answer { λ v. ⌜ v ≡ evaluated (row-count (now (formula .entry))) (length (steps (now (recording .entry)))) (length (now (cells .entry))) ⌝ }
     ensures cells { λ v. ⌜ Left pair-ops (steps (now (recording .entry))) (now (formula .entry)) (now (cells .entry)) (now (cells .exit)) v ⌝ }
+    ensures examples { λ _. ⌜ WorkedExamples ⌝ }
     ensures told { λ _. ⌜ ((r i : ℕ) → PairTold (steps (now (recording .entry))) (tree (now (formula .entry)) r) i) ⌝ }
 {
-    evaluate(formula, recording, cells)
+    evaluate::<Pair, R>(formula, recording, cells)
 }

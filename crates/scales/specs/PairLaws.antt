@@ -2,11 +2,11 @@
 use mathlib.Core.Path.{_≡_}
 use Prim.Native.Nat.{ℕ, _+_, _≤_, min, max}
 use native.Mathlib.Omega.{arith}
-use Rattle.ltl.specs.Scales.{Laws}
-use Rattle.ltl.specs.Pairs.{below, least, most, one-more, truer-pair, pair-ops}
-use Rattle.ltl.specs.declared.pair.Count.{Count}
-use Rattle.ltl.specs.declared.pair.Count.the-variants.{Number, Infinite, Impossible}
-use Rattle.ltl.specs.declared.pair.Pair.{Pair}
+use Rattle.scales.specs.Scales.{Laws}
+use Rattle.scales.specs.Pairs.{below, least, most, one-more, truer-pair, pair-ops}
+use Rattle.scales.specs.declared.pair.Count.{Count}
+use Rattle.scales.specs.declared.pair.Count.the-variants.{Number, Infinite, Impossible}
+use Rattle.scales.specs.declared.pair.Pair.{Pair}
 
 below-same : (x : Count) → below x x
 below-same (Number a) = omega arith

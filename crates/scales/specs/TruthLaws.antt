@@ -2,10 +2,10 @@
 use mathlib.Core.Path.{_≡_, refl}
 use Prim.Native.Nat.{ℕ, _+_, max}
 use native.Mathlib.Omega.{arith}
-use Rattle.ltl.specs.Scales.{Laws}
-use Rattle.ltl.specs.Truths.{rank, truer, mirror, upper, truth-ops}
-use Rattle.ltl.specs.declared.truth.Truth.{Truth}
-use Rattle.ltl.specs.declared.truth.Truth.the-variants.{False, Undecided, True}
+use Rattle.scales.specs.Scales.{Laws}
+use Rattle.scales.specs.Truths.{rank, truer, mirror, upper, truth-ops}
+use Rattle.scales.specs.declared.truth.Truth.{Truth}
+use Rattle.scales.specs.declared.truth.Truth.the-variants.{False, Undecided, True}
 
 rank-mirror : (x : Truth) → rank (mirror x) + rank x ≡ 2
 rank-mirror False = refl

@@ -1,9 +1,9 @@
 -- The scale of pairs of witness counts.
 use Prim.Native.Nat.{ℕ, _+_, _≤_, min, max}
-use Rattle.ltl.specs.Scales.{Ops}
-use Rattle.ltl.specs.declared.pair.Count.{Count}
-use Rattle.ltl.specs.declared.pair.Count.the-variants.{Number, Infinite, Impossible}
-use Rattle.ltl.specs.declared.pair.Pair.{Pair}
+use Rattle.scales.specs.Scales.{Ops}
+use Rattle.scales.specs.declared.pair.Count.{Count}
+use Rattle.scales.specs.declared.pair.Count.the-variants.{Number, Infinite, Impossible}
+use Rattle.scales.specs.declared.pair.Pair.{Pair}
 
 -- the order of counts: number < inf < impossible
 abbrev pub below : Count → Count → Type 0

@@ -1,9 +1,9 @@
 //! The scale of pairs of witness counts.
 ghost use mathlib.Core.Path.{_≡_};
 ghost use Rattle.std.specs.declared.option.Option.the-variants.{Some};
-ghost use Rattle.ltl.specs.Pairs.{least, most, one-more, pair-ops, truer-pair};
-ghost use Rattle.ltl.specs.Shown.{shown-count, shown-pair};
-ghost use Rattle.ltl.specs.PairLaws.{pair-laws};
+ghost use Rattle.scales.specs.Pairs.{least, most, one-more, pair-ops, truer-pair};
+ghost use Rattle.scales.specs.Shown.{shown-count, shown-pair};
+ghost use Rattle.scales.specs.PairLaws.{pair-laws};
 use crate::scale::Scale;
 use std::fmt;
 

@@ -1,6 +1,6 @@
 //! What a scale of values is.
 ghost use mathlib.Core.Path.{_≡_};
-ghost use Rattle.ltl.specs.Scales.{Ops, Laws, meet as meet-of};
+ghost use Rattle.scales.specs.Scales.{Ops, Laws, meet as meet-of};
 
 /// A scale: values of truth named yes, no, past and open, with the operations on them.
 /// Whoever supplies one shows the truth laws; nothing else may be asked of a scale.

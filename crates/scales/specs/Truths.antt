@@ -1,8 +1,8 @@
 -- The three-valued scale: false < undecided < true.
 use Prim.Native.Nat.{ℕ, _≤_}
-use Rattle.ltl.specs.Scales.{Ops}
-use Rattle.ltl.specs.declared.truth.Truth.{Truth}
-use Rattle.ltl.specs.declared.truth.Truth.the-variants.{False, Undecided, True}
+use Rattle.scales.specs.Scales.{Ops}
+use Rattle.scales.specs.declared.truth.Truth.{Truth}
+use Rattle.scales.specs.declared.truth.Truth.the-variants.{False, Undecided, True}
 
 -- the place of a value in the order
 abbrev pub rank : Truth → ℕ

@@ -2,9 +2,9 @@
 ghost use mathlib.Core.Path.{_≡_};
 ghost use lib.Chars.{codes};
 ghost use Rattle.std.specs.declared.option.Option.the-variants.{Some};
-ghost use Rattle.ltl.specs.Truths.{truth-ops, truer};
-ghost use Rattle.ltl.specs.Shown.{shown-truth};
-ghost use Rattle.ltl.specs.TruthLaws.{truth-laws};
+ghost use Rattle.scales.specs.Truths.{truth-ops, truer};
+ghost use Rattle.scales.specs.Shown.{shown-truth};
+ghost use Rattle.scales.specs.TruthLaws.{truth-laws};
 use crate::scale::Scale;
 use std::fmt;
 
@@ -24,19 +24,19 @@ pub impl Scale for Truth as TruthScale {
     ghost laws = { truth-laws };
 
     fn yes() -> Truth {
-        Truth::True
+        Self::True
     }
 
     fn no() -> Truth {
-        Truth::False
+        Self::False
     }
 
     fn past() -> Truth {
-        Truth::Undecided
+        Self::Undecided
     }
 
     fn open() -> Truth {
-        Truth::False
+        Self::no()
     }
 
     fn turn(self) -> Truth {
