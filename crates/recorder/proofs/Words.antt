@@ -10,10 +10,10 @@ use lib.ListN.{length, take, getD, set}
 use Rattle.std.proofs.shelf.Lists.{length-take, length-set, length-map, getD-take, getD-past, take-more-set, map-append}
 use Rattle.ltl.specs.Steps.{step-at}
 use Rattle.std.proofs.shelf.Tests.{and-from, and-left, lt-ltb, le-ltb}
-use Rattle.std.specs.declared.result.Result.the-variants.{Ok, Err}
+use Rattle.std.specs.declared.result.Result.the-variants.{Err}
 use Rattle.recorder.specs.Plain.{width-in, capacity-in, held-in, step-in, steps-in}
 use Rattle.recorder.specs.Recordings.{Roomy, record-answer}
-use Rattle.recorder.specs.declared.fault.RecordFault.the-variants.{ForeignSignal, NoRoom}
+use Rattle.recorder.specs.declared.fault.RecordFault.the-variants.{ForeignSignal}
 
 pub size : (width held : ℕ) (words : List ℕ) → length (steps-in width held words) ≡ held-in held (length words)
 size width held words =
@@ -52,11 +52,5 @@ plain-roomy width capacity n s = record {
   foreign = λ h. and-left (ltb s (2 ^ width)) (ltb n capacity) (le-ltb s (2 ^ width) h);
 }
 
-pub accepted : (width capacity n s : ℕ) → ltb s (2 ^ width) ≡ true → n < capacity → Ok (n + 1) ≡ record-answer width (ltb s (2 ^ width) && ltb n capacity) n s
-accepted width capacity n s h l = rw (h, lt-ltb n capacity l)
-
 pub foreign : (width n s : ℕ) (room : Bool) → ltb s (2 ^ width) ≡ false → Err ForeignSignal ≡ record-answer width room n s
 foreign width n s room h = rw h
-
-pub full : (width capacity n s : ℕ) → ltb s (2 ^ width) ≡ true → capacity ≤ n → Err NoRoom ≡ record-answer width (ltb s (2 ^ width) && ltb n capacity) n s
-full width capacity n s h l = rw (h, le-ltb n capacity l)

@@ -1,8 +1,10 @@
 //! The plain recorder: one 32-bit word a step, in memory that is handed in.
 ghost use mathlib.Core.Path.{_≡_};
-ghost use lib.ListN.{length};
+ghost use lib.ListN.{length, set};
 ghost use denote.Ref.{now};
-ghost use Rattle.ltl.specs.Steps.{set-of};
+ghost use mathlib.Core.List.{[], _∷_, _++_};
+ghost use Prim.Native.Nat.{_^_, _<_, _≤_};
+ghost use Rattle.ltl.specs.Steps.{step-at, set-of};
 ghost use Rattle.std.specs.Results.{Cases};
 ghost use Rattle.recorder.specs.Recordings.{Roomy, record-answer, grown, Unchanged};
 ghost use Rattle.recorder.specs.Plain.{plain-width, plain-steps, plain-capacity, plain-room, words-after};
@@ -47,6 +49,38 @@ impl<'a> PlainRecorder<'a> {
     }
 }
 
+/// n: how many steps are held.
+fn held(p: &PlainRecorder) -> usize
+    ensures value { λ r. ⌜ r ≡ length (plain-steps (now (p .entry))) ⌝ }
+    ensures within { λ r. ⌜ r ≤ length (now (now (p .entry) .words)) ⌝ }
+{
+    p.held.min(p.words.len().min(LIMIT))
+}
+
+/// The step at a position from 1 to n.
+fn kept_at(p: &PlainRecorder, at: usize) -> Step
+    requires first { ⌜ 1 ≤ at ⌝ }
+    requires last { ⌜ at ≤ length (plain-steps (now p)) ⌝ }
+    ensures { λ r. ⌜ set-of r ≡ step-at (plain-steps (now (p .entry))) at ⌝ }
+{
+    let word = p.words[at - 1] as u64;
+    Step::from_bits(word % (1u64 << p.width.max(1).min(32)))
+}
+
+/// Writes the word of one step more.
+fn append(p: &mut PlainRecorder, step: Step)
+    requires fits { ⌜ set-of step < 2 ^ plain-width (now p) ⌝ }
+    requires room { ⌜ length (plain-steps (now p)) < plain-capacity (now p) ⌝ }
+    ensures steps { λ _. ⌜ plain-steps (now (p .exit)) ≡ plain-steps (now (p .entry)) ++ set-of step ∷ [] ⌝ }
+    ensures width { λ _. ⌜ plain-width (now (p .exit)) ≡ plain-width (now (p .entry)) ⌝ }
+    ensures capacity { λ _. ⌜ plain-capacity (now (p .exit)) ≡ plain-capacity (now (p .entry)) ⌝ }
+    ensures words { λ _. ⌜ now (now (p .exit) .words) ≡ set (now (now (p .entry) .words)) (length (plain-steps (now (p .entry)))) (set-of step) ⌝ }
+{
+    let n = held(p);
+    p.words[n] = step.bits() as u32;
+    p.held = n + 1;
+}
+
 pub impl<'a> Recording for PlainRecorder<'a> as PlainRecording {
     ghost width = { plain-width };
 
@@ -59,15 +93,14 @@ pub impl<'a> Recording for PlainRecorder<'a> as PlainRecording {
     }
 
     fn len(&self) -> usize {
-        self.held.min(self.words.len().min(LIMIT))
+        held(self)
     }
 
     fn step(&self, at: usize) -> Step {
-        if at == 0 || at > self.len() {
+        if at == 0 || at > held(self) {
             return Step::empty();
         }
-        let word = self.words[at - 1] as u64;
-        Step::from_bits(word % (1u64 << self.width()))
+        kept_at(self, at)
     }
 }
 
@@ -96,8 +129,7 @@ pub impl<'a> Recorder for PlainRecorder<'a> as PlainGrows {
         if n >= self.words.len().min(LIMIT) {
             return Err(RecordFault::NoRoom);
         }
-        self.words[n] = step.bits() as u32;
-        self.held = n + 1;
+        append(self, step);
         Ok(n + 1)
     }
 }

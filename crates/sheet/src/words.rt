@@ -24,6 +24,7 @@ pub struct Next<'a> {
 fn gap_len(s: &[u8], sep: u8) -> usize
     ensures within { λ r. ⌜ r ≤ length (now (s .entry)) ⌝ }
     ensures is { λ r. ⌜ r ≡ gap sep (now (s .entry)) ⌝ }
+    ensures none { λ r. ⌜ (length (now (s .entry)) ≤ r → (p : ℕ) → parts sep p (now (s .entry)) ≡ []) ⌝ }
 {
     let mut n = 0;
     while n < s.len() && s[n] == sep {
@@ -44,6 +45,21 @@ fn run_len(s: &[u8], sep: u8) -> usize
     n
 }
 
+/// The word that begins at an offset, after separators alone.
+fn word_from<'a>(s: &'a [u8], sep: u8, from: usize) -> Next<'a>
+    requires gap { ⌜ from ≡ gap sep (now s) ⌝ }
+    requires within { ⌜ from < length (now s) ⌝ }
+    ensures some { λ w. ⌜ 0 < w .used ⌝ }
+    ensures within { λ w. ⌜ w .used ≤ length (now (s .entry)) ⌝ }
+    ensures ends { λ w. ⌜ w .word .at + length (now (w .word .text)) ≡ w .used ⌝ }
+    ensures next { λ w. ⌜ ((p : ℕ) → parts sep p (now (s .entry)) ≡ part (now (w .word .text)) (p + w .word .at) ∷ parts sep (p + w .used) (drop (w .used) (now (s .entry)))) ⌝ }
+{
+    let rest = &s[from..];
+    let len = run_len(rest, sep);
+    let text = &rest[0..len];
+    Next { word: Word { text, at: from }, used: from + len }
+}
+
 /// The first word of `s`, or nothing where `s` holds only separators.
 pub fn next_word<'a>(s: &'a [u8], sep: u8) -> Option<Next<'a>>
     ensures { λ r. ⌜ BySome r ((p : ℕ) → parts sep p (now (s .entry)) ≡ []) (λ w. (0 < w .used) × (w .used ≤ length (now (s .entry))) × (w .word .at + length (now (w .word .text)) ≡ w .used) × ((p : ℕ) → parts sep p (now (s .entry)) ≡ part (now (w .word .text)) (p + w .word .at) ∷ parts sep (p + w .used) (drop (w .used) (now (s .entry))))) ⌝ }
@@ -52,8 +68,5 @@ pub fn next_word<'a>(s: &'a [u8], sep: u8) -> Option<Next<'a>>
     if from >= s.len() {
         return None;
     }
-    let rest = &s[from..];
-    let len = run_len(rest, sep);
-    let text = &rest[0..len];
-    Some(Next { word: Word { text, at: from }, used: from + len })
+    Some(word_from(s, sep, from))
 }

@@ -90,8 +90,8 @@ fn only_dash(line: &[u8]) -> bool
     }
 }
 
-/// What a line of the input says.
-pub fn read_line(line: &[u8]) -> Line
+/// A line by its three kinds.
+fn said(line: &[u8]) -> Line
     ensures is { λ r. ⌜ r ≡ line-of (parts 32 0 (now (line .entry))) ⌝ }
     ensures signals { λ r. ⌜ ((s : Step) → r ≡ Signals s → (k : ℕ) → (has (set-of s) k ≡ true) ↔ Names k (parts 32 0 (now (line .entry)))) ⌝ }
 {
@@ -102,4 +102,12 @@ pub fn read_line(line: &[u8]) -> Line
     } else {
         named_signals(line)
     }
+}
+
+/// What a line of the input says.
+pub fn read_line(line: &[u8]) -> Line
+    ensures is { λ r. ⌜ r ≡ line-of (parts 32 0 (now (line .entry))) ⌝ }
+    ensures signals { λ r. ⌜ ((s : Step) → r ≡ Signals s → (k : ℕ) → (has (set-of s) k ≡ true) ↔ Names k (parts 32 0 (now (line .entry)))) ⌝ }
+{
+    said(line)
 }

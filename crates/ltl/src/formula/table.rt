@@ -51,6 +51,33 @@ fn filled(rows: &[Row]) -> [Row; 64]
     table
 }
 
+/// The formula of rows that make one.
+fn assembled(width: u8, rows: &[Row], watch: usize) -> Formula
+    requires { ⌜ WellFormed (table-from width (now rows) watch) ⌝ }
+    ensures { λ f. ⌜ table f ≡ table-from width (now (rows .entry)) watch ⌝ }
+{
+    Formula { width, rows: filled(rows), len: rows.len(), watch }
+}
+
+/// Row r of a formula that has it.
+fn stored(formula: &Formula, r: usize) -> Row
+    requires { ⌜ r < row-count (now formula) ⌝ }
+    ensures value { λ x. ⌜ x ≡ getD (rows-of (now (formula .entry))) r (Signal 0) ⌝ }
+    ensures within { λ _. ⌜ r < length (rows-of (now (formula .entry))) ⌝ }
+    ensures fits { λ x. ⌜ Fits (width-of (now (formula .entry))) r x ⌝ }
+{
+    formula.rows[r]
+}
+
+/// How many rows the table of a formula has.
+fn counted(formula: &Formula) -> usize
+    ensures value { λ r. ⌜ r ≡ row-count (now (formula .entry)) ⌝ }
+    ensures within { λ r. ⌜ (1 ≤ r) × (r ≤ 64) ⌝ }
+    ensures rows { λ r. ⌜ r ≡ length (rows-of (now (formula .entry))) ⌝ }
+{
+    formula.len
+}
+
 impl Formula {
     /// The formula of these rows, or nothing where they make none.
     pub fn new(width: u8, rows: &[Row], watch: usize) -> Option<Formula>
@@ -62,7 +89,7 @@ impl Formula {
         if !all_fit(rows, width) {
             return None;
         }
-        Some(Formula { width, rows: filled(rows), len: rows.len(), watch })
+        Some(assembled(width, rows, watch))
     }
 
     /// How many signals the formula has, W.
@@ -79,7 +106,7 @@ impl Formula {
         ensures within { λ r. ⌜ (1 ≤ r) × (r ≤ 64) ⌝ }
         ensures counted { λ r. ⌜ r ≡ length (rows-of (now (self .entry))) ⌝ }
     {
-        self.len
+        counted(self)
     }
 
     /// The number of the watch row.
@@ -98,6 +125,6 @@ impl Formula {
         if r >= self.len {
             return None;
         }
-        Some(self.rows[r])
+        Some(stored(self, r))
     }
 }

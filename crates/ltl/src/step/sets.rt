@@ -46,7 +46,7 @@ impl Step {
         if signal >= 64 {
             return None;
         }
-        Some(Step { bits: self.bits | 1u64 << signal })
+        Some(added(self, signal))
     }
 
     /// Whether every signal of the step is below a width.
@@ -54,7 +54,24 @@ impl Step {
         ensures value { λ r. ⌜ r ≡ ltb (set-of self) (2 ^ width) ⌝ }
         ensures signals { λ r. ⌜ (T r ↔ Below width (set-of self)) ⌝ }
     {
-        let bits = self.bits();
-        width >= 64 || bits >> width == 0
+        below(self, width)
     }
+}
+
+/// The step with one signal more.
+fn added(step: Step, signal: u8) -> Step
+    requires { ⌜ signal < 64 ⌝ }
+    ensures set { λ s. ⌜ set-of s ≡ bitOr (set-of step) (2 ^ signal) ⌝ }
+    ensures members { λ s. ⌜ ((k : ℕ) → has (set-of s) k ≡ (has (set-of step) k || eqb k signal)) ⌝ }
+{
+    Step { bits: step.bits | 1u64 << signal }
+}
+
+/// Whether no bit from the width on is 1.
+fn below(step: Step, width: u8) -> bool
+    ensures value { λ r. ⌜ r ≡ ltb (set-of step) (2 ^ width) ⌝ }
+    ensures signals { λ r. ⌜ (T r ↔ Below width (set-of step)) ⌝ }
+{
+    let bits = step.bits();
+    width >= 64 || bits >> width == 0
 }

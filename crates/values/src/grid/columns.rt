@@ -5,14 +5,12 @@ ghost use Prim.Native.Nat.{ℕ, _+_, _<_, _≤_};
 ghost use lib.Dec.{leb};
 ghost use lib.ListN.{length, getD};
 ghost use denote.Ref.{name};
-ghost use Rattle.ltl.specs.Examples.{WorkedExamples};
-ghost use Rattle.ltl.specs.Formulas.{rows-of, row-count, width-of, tree};
-ghost use Rattle.scales.specs.Pairs.{pair-ops};
-ghost use Rattle.ltl.specs.Promises.{TruthTold, PairTold, OrderTold};
+ghost use Rattle.ltl.specs.Formulas.{rows-of, row-count, width-of};
+ghost use Rattle.scales.specs.Pairs.{pair-ops, truer-pair};
 ghost use Rattle.ltl.specs.Rows.{Fits};
 ghost use Rattle.ltl.specs.declared.row.Row.the-variants.{Signal};
 ghost use Rattle.ltl.specs.Steps.{step-at, set-of};
-ghost use Rattle.scales.specs.Truths.{truth-ops};
+ghost use Rattle.scales.specs.Truths.{truth-ops, truer};
 ghost use Rattle.ltl.specs.Values.{signal-value};
 ghost use Rattle.values.specs.Answers.{evaluated, Filled, Left};
 ghost use Rattle.values.specs.Grids.{place, Inside, Ready};
@@ -117,7 +115,7 @@ fn column<S: Scale, R: Recording>(formula: &Formula, recording: &R, grid: &mut G
 /// Fills the grid: every cell of a row and a position holds the row's value there.
 fn fill<S: Scale, R: Recording>(formula: &Formula, recording: &R, grid: &mut Grid<S>)
     requires { ⌜ Ready (row-count (now formula)) (length (steps (now recording))) (length (now (now grid .cells))) (now grid .rows) (now grid .positions) ⌝ }
-    ensures cells { λ _. ⌜ Filled ops (steps (now (recording .entry))) (now (formula .entry)) (now (now (grid .entry) .cells)) (now (now (grid .exit) .cells)) ⌝ }
+    ensures cells { λ _. ⌜ Filled ops atleast (width (now (recording .entry))) (steps (now (recording .entry))) (now (formula .entry)) (now (now (grid .entry) .cells)) (now (now (grid .exit) .cells)) ⌝ }
     ensures memory { λ _. ⌜ name (now (grid .exit) .cells) ≡ name (now (grid .entry) .cells) ⌝ }
 {
     for i in (1..recording.len() + 2).rev() {
@@ -129,8 +127,7 @@ fn fill<S: Scale, R: Recording>(formula: &Formula, recording: &R, grid: &mut Gri
 /// Cells past these stay, and a grid that is too small is left as it is.
 pub fn evaluate<S: Scale, R: Recording>(formula: &Formula, recording: &R, cells: &mut [S]) -> Result<(), GridTooSmall>
     ensures answer { λ v. ⌜ v ≡ evaluated (row-count (now (formula .entry))) (length (steps (now (recording .entry)))) (length (now (cells .entry))) ⌝ }
-    ensures cells { λ v. ⌜ Left ops (steps (now (recording .entry))) (now (formula .entry)) (now (cells .entry)) (now (cells .exit)) v ⌝ }
-    ensures order { λ _. ⌜ ((r i : ℕ) → OrderTold ops atleast (steps (now (recording .entry))) (tree (now (formula .entry)) r) i) ⌝ }
+    ensures cells { λ v. ⌜ Left ops atleast (width (now (recording .entry))) (steps (now (recording .entry))) (now (formula .entry)) (now (cells .entry)) (now (cells .exit)) v ⌝ }
 {
     let rows = formula.row_count();
     let positions = recording.len() + 1;
@@ -145,18 +142,15 @@ pub fn evaluate<S: Scale, R: Recording>(formula: &Formula, recording: &R, cells:
 /// The same at three-valued values.
 pub fn truths<R: Recording>(formula: &Formula, recording: &R, cells: &mut [Truth]) -> Result<(), GridTooSmall>
     ensures answer { λ v. ⌜ v ≡ evaluated (row-count (now (formula .entry))) (length (steps (now (recording .entry)))) (length (now (cells .entry))) ⌝ }
-    ensures cells { λ v. ⌜ Left truth-ops (steps (now (recording .entry))) (now (formula .entry)) (now (cells .entry)) (now (cells .exit)) v ⌝ }
-    ensures told { λ _. ⌜ (width-of (now (formula .entry)) ≡ width (now (recording .entry)) → (r i : ℕ) → 1 ≤ i → TruthTold (width-of (now (formula .entry))) (steps (now (recording .entry))) (tree (now (formula .entry)) r) i) ⌝ }
+    ensures cells { λ v. ⌜ Left truth-ops truer (width (now (recording .entry))) (steps (now (recording .entry))) (now (formula .entry)) (now (cells .entry)) (now (cells .exit)) v ⌝ }
 {
     evaluate::<Truth, R>(formula, recording, cells)
 }
 
-/// The same at pairs of witness counts. With it stand the worked examples of the documentation.
+/// The same at pairs of witness counts.
 pub fn pairs<R: Recording>(formula: &Formula, recording: &R, cells: &mut [Pair]) -> Result<(), GridTooSmall>
     ensures answer { λ v. ⌜ v ≡ evaluated (row-count (now (formula .entry))) (length (steps (now (recording .entry)))) (length (now (cells .entry))) ⌝ }
-    ensures cells { λ v. ⌜ Left pair-ops (steps (now (recording .entry))) (now (formula .entry)) (now (cells .entry)) (now (cells .exit)) v ⌝ }
-    ensures examples { λ _. ⌜ WorkedExamples ⌝ }
-    ensures told { λ _. ⌜ ((r i : ℕ) → PairTold (steps (now (recording .entry))) (tree (now (formula .entry)) r) i) ⌝ }
+    ensures cells { λ v. ⌜ Left pair-ops truer-pair (width (now (recording .entry))) (steps (now (recording .entry))) (now (formula .entry)) (now (cells .entry)) (now (cells .exit)) v ⌝ }
 {
     evaluate::<Pair, R>(formula, recording, cells)
 }

@@ -4,6 +4,8 @@ use borrow.Author.Needs.{needs}
 use Prim.Native.Nat.{ℕ, _+_, _-_, _<_, _≤_}
 use lib.ListN.{length}
 use Rattle.ltl.specs.Formulas.{row-count, tree}
+use Rattle.ltl.proofs.Examples.{worked}
+use Rattle.ltl.proofs.Promises.{order-told, truth-told, pair-told}
 use Rattle.ltl.proofs.Truer.{stays}
 use Rattle.values.proofs.Columns.{frame-same, frame-trans, ready-in, held-none, held-next, held-all}
 use Rattle.values.proofs.grid.columns.fill.Needs as need
@@ -30,6 +32,7 @@ returns g c =
     let o = g .S·Scale .ops in
     let steps = g .R·Recording .steps (c .args .recording .now) in
     let formula = c .args .formula .now in
+    let lawful = g .R·Recording .lawful (c .args .recording .now) in
     let f = c .loop-i .inv .1 in
     let z : c .loop-i .i - 1 ≡ 0 = omega arith in
     let all = λ (r i : ℕ) (b : r < row-count formula) (l : 1 ≤ i) (m : i ≤ length steps + 1).
@@ -40,6 +43,10 @@ returns g c =
         later = λ r i b l. all r (length steps + 1) b (omega arith) (omega arith) ∙ sym (stays o steps (tree formula r) i l);
         size = f .size;
         past = rw (c .pre .rows-is, c .pre .positions-is) at (f .past);
+        order = λ r i. order-told o (g .S·Scale .atleast) (g .S·Scale .laws) steps (tree formula r) i;
+        decisions = λ same r i h. rw (← same) (truth-told steps formula r i (λ j. rw same (lawful .low j)) h);
+        counts = λ r i. pair-told steps (lawful .few-steps) (tree formula r) i;
+        examples = worked;
       };
       memory = f .memory;
     }
