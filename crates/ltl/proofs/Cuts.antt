@@ -15,7 +15,7 @@ use Rattle.scales.specs.Truths.{truth-ops, mirror, upper}
 use Rattle.scales.specs.Pairs.{pair, pair-ops, least, most, one-more, Shape, true-after, false-after, both-numbers, never-false, never-true, neither}
 use Rattle.ltl.specs.Trees.{Tree, signal, not, or, next, until, eventually}
 use Rattle.ltl.specs.Values.{value}
-use Rattle.ltl.specs.Cuts.{Shapes, Cuts, Counted, FirstCut}
+use Rattle.ltl.specs.Cuts.{Counted, FirstCut}
 use Rattle.scales.specs.declared.truth.Truth.{Truth}
 use Rattle.scales.specs.declared.truth.Truth.the-variants.{False, Undecided, True}
 use Rattle.scales.specs.declared.pair.Count.{Count}
@@ -372,7 +372,7 @@ shape n i _ (und _ _ (num a h) inf) = never-false a
 shape n i _ (und _ _ inf (num b k)) = never-true b
 shape n i _ (und _ _ inf inf) = neither
 
-pub shapes : Shapes
+pub shapes : (steps : List ℕ) → length steps ≤ 4096 → (t : Tree) (i : ℕ) → Shape (value pair-ops steps t i)
 shapes steps few t i = shape (length steps) i _ (fit steps few t i)
 
 far-never : (n i : ℕ) (y : Count) → Far n i y → y ≡ Impossible → ⊥
@@ -443,7 +443,7 @@ module _ (steps : List ℕ) (t : Tree) (i m : ℕ) where
     shortest = λ k h d. c .shortest k h (mirrored (value truth-ops (take k steps) t i) d);
   }
 
-pub cuts : Cuts
+pub cuts : (steps : List ℕ) → length steps ≤ 4096 → (t : Tree) (i : ℕ) → Counted steps t i
 unfolding value
 cuts steps few t i = record {
   true-at = λ a. (first steps few t i a, counts steps few t i a);

@@ -1,6 +1,6 @@
 pub mod Back
 pub mod Cuts
-pub mod Later
+pub mod Agrees
 pub mod Mono
 pub mod Over
 pub mod Sound

@@ -9,7 +9,7 @@ use Rattle.ltl.specs.Trees.{Tree}
 use Rattle.ltl.specs.Formulas.{tree, width-of}
 use Rattle.ltl.specs.declared.formula.Formula.{Formula}
 use Rattle.ltl.proofs.Cuts.{cuts, shapes}
-use Rattle.ltl.proofs.Later.{agree}
+use Rattle.ltl.proofs.Agrees.{agree}
 use Rattle.ltl.proofs.Sound.{soundness, open-both}
 use Rattle.ltl.proofs.Truer.{order}
 use Rattle.ltl.proofs.Formulas.{signals-below}

@@ -16,7 +16,7 @@ use Rattle.ltl.specs.Trees.{Tree, signal, not, or, next, until, eventually}
 use Rattle.ltl.specs.Values.{value}
 use Rattle.ltl.specs.Paths.{Side, upright, turned, other, Reaches, reaches}
 use Rattle.ltl.specs.Cuts.{Decide}
-use Rattle.ltl.specs.Endless.{Holds, Continues, onward, step-of, Sound, Soundness, SignalsBelow, StepsBelow, OneSided, best, worst, Continuation, BothWays, Open}
+use Rattle.ltl.specs.Endless.{Holds, Continues, onward, step-of, Sound, SignalsBelow, StepsBelow, OneSided, best, worst, Continuation, BothWays}
 use Rattle.scales.specs.declared.truth.Truth.{Truth}
 use Rattle.scales.specs.declared.truth.Truth.the-variants.{False, Undecided, True}
 use Rattle.ltl.proofs.Back.{back, eventually-in, eventually-past, until-in, until-past, signal-in, signal-past}
@@ -165,7 +165,7 @@ module _ (u : Bool) (w : ℕ → ℕ) (steps : List ℕ) (c : Continues steps w)
     fails = λ f i o g z. r .fails f (z .0) (omega (arith, z .1)) (eventually-low a i g (z .0) (z .1)) (z .2);
   }
 
-pub soundness : Soundness
+pub soundness : (steps : List ℕ) (t : Tree) (i : ℕ) → 1 ≤ i → Sound steps t i
 soundness steps t i o = record {
   holds = λ d w c. reads false w steps c t .holds (λ e. absurd e) i o (rw d tt);
   fails = λ d w c. reads false w steps c t .fails (λ e. absurd e) i o (rw d tt);
@@ -244,7 +244,7 @@ leaning width steps t p near far single e i h k =
     ( (λ r. rw (onward-past steps x i h) (has-step-of width (reaches t p) k (near k r) ∙ reaching t p k r))
     , (λ r q. single k (reached t p k (sym (has-step-of width (reaches t p) k (far k r)) ∙ rw (onward-past steps x i h) at q)) r))
 
-pub open-both : Open
+pub open-both : (width : ℕ) (steps : List ℕ) → StepsBelow width steps → (t : Tree) → SignalsBelow width t → OneSided t → (i : ℕ) → 1 ≤ i → Decide steps t i Undecided → BothWays width steps t i
 open-both width steps low t under single i o d = record {
   one = goes-on width steps low (reaches t upright);
   holds = reads true (best width steps t) steps (onward-in steps _) t .holds

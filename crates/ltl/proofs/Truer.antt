@@ -11,9 +11,9 @@ use Rattle.std.proofs.shelf.Lists.{getD-past}
 use Rattle.ltl.specs.Steps.{has, step-at}
 use Rattle.scales.specs.Scales.{Ops, Laws}
 use Rattle.ltl.specs.Trees.{Tree, signal, not, or, next, until, eventually}
-use Rattle.ltl.specs.Values.{Stays}
+use Rattle.ltl.specs.Values.{value}
 use Rattle.ltl.proofs.Over.{Over}
-use Rattle.ltl.specs.Truer.{AtLeast, Truer, Order}
+use Rattle.ltl.specs.Truer.{AtLeast, Truer}
 use Rattle.ltl.proofs.Unfold.{after-same}
 use Rattle.ltl.proofs.Mono.{monotone}
 
@@ -41,8 +41,9 @@ everywhere t xs ys e h (suc i) =
       (λ l. rw (getD-past xs i 0 l, getD-past ys i 0 (omega arith)) (same t 0))
       (cases-lt i (length xs))
 
-pub order : {V : Type 0} (o : Ops V) (p : V → V → Type 0) → Laws o p → Order o p
+pub order : {V : Type 0} (o : Ops V) (p : V → V → Type 0) → Laws o p → (t : Tree) (xs ys : List ℕ) → Truer t xs ys → (i : ℕ) → p (value o ys t i) (value o xs t i)
 order o p l t xs ys h i = monotone o p l t xs ys (h .size) (λ j. over t (step-at xs j) (step-at ys j) (everywhere t xs ys (h .size) (h .each) j)) i
 
-pub stays : {V : Type 0} (o : Ops V) → Stays o
+-- values after the position after the last step are those there
+pub stays : {V : Type 0} (o : Ops V) (steps : List ℕ) (t : Tree) (i : ℕ) → length steps < i → value o steps t i ≡ value o steps t (length steps + 1)
 stays o steps t i h = after-same o steps t i (length steps + 1) h (omega arith)

@@ -5,7 +5,7 @@ use mathlib.Core.List.{List}
 use Prim.Native.Nat.{ℕ, _+_, _≤_, _<_}
 use lib.ListN.{length, take}
 use Rattle.scales.specs.Truths.{truth-ops}
-use Rattle.scales.specs.Pairs.{pair, pair-ops, Shape}
+use Rattle.scales.specs.Pairs.{pair, pair-ops}
 use Rattle.ltl.specs.Trees.{Tree}
 use Rattle.ltl.specs.Values.{value}
 use Rattle.scales.specs.declared.truth.Truth.{Truth}
@@ -31,12 +31,3 @@ pub record Counted (steps : List ℕ) (t : Tree) (i : ℕ) : Type 0 where
 pub record Agrees (steps : List ℕ) (t : Tree) (i : ℕ) : Type 0 where
   pub true-when : Decide steps t i True ↔ ((a : ℕ) × (value pair-ops steps t i ≡ pair (Number a) Impossible))
   pub false-when : Decide steps t i False ↔ ((a : ℕ) × (value pair-ops steps t i ≡ pair Impossible (Number a)))
-
-abbrev pub Agree : Type 0
-Agree = (steps : List ℕ) → length steps ≤ 4096 → (t : Tree) (i : ℕ) → Agrees steps t i
-
-abbrev pub Cuts : Type 0
-Cuts = (steps : List ℕ) → length steps ≤ 4096 → (t : Tree) (i : ℕ) → Counted steps t i
-
-abbrev pub Shapes : Type 0
-Shapes = (steps : List ℕ) → length steps ≤ 4096 → (t : Tree) (i : ℕ) → Shape (value pair-ops steps t i)

@@ -10,7 +10,7 @@ use Rattle.ltl.specs.Steps.{has, step-at}
 use Rattle.ltl.specs.Trees.{Tree, signal, not, or, next, until, eventually}
 use Rattle.ltl.specs.Paths.{Reaches, reaches, upright, turned}
 use Rattle.ltl.specs.Cuts.{Decide}
-use Rattle.scales.specs.declared.truth.Truth.the-variants.{False, Undecided, True}
+use Rattle.scales.specs.declared.truth.Truth.the-variants.{False, True}
 
 -- the formula holds at position i of the endless list w
 abbrev pub Holds : (ℕ → ℕ) → Tree → ℕ → Type 0
@@ -34,9 +34,6 @@ pub record Continuation (width : ℕ) (steps : List ℕ) (w : ℕ → ℕ) : Typ
 pub record Sound (steps : List ℕ) (t : Tree) (i : ℕ) : Type 0 where
   pub holds : Decide steps t i True → (w : ℕ → ℕ) → Continues steps w → Holds w t i
   pub fails : Decide steps t i False → (w : ℕ → ℕ) → Continues steps w → ¬ Holds w t i
-
-abbrev pub Soundness : Type 0
-Soundness = (steps : List ℕ) (t : Tree) (i : ℕ) → 1 ≤ i → Sound steps t i
 
 -- the steps, and then one step for ever
 abbrev pub onward : List ℕ → ℕ → ℕ → ℕ
@@ -73,8 +70,3 @@ StepsBelow width steps = (i : ℕ) → step-at steps i < 2 ^ width
 -- no signal is reached both upright and turned
 abbrev pub OneSided : Tree → Type 0
 OneSided t = (k : ℕ) → Reaches t upright k → ¬ Reaches t turned k
-
-abbrev pub Open : Type 0
-Open =
-    (width : ℕ) (steps : List ℕ) → StepsBelow width steps → (t : Tree) → SignalsBelow width t → OneSided t →
-    (i : ℕ) → 1 ≤ i → Decide steps t i Undecided → BothWays width steps t i

@@ -1,13 +1,11 @@
--- When one step is at least as true for a formula as another, and what follows for values.
+-- When one step is at least as true for a formula as another.
 use mathlib.Core.Path.{_≡_}
 use mathlib.Core.List.{List}
 use mathlib.Core.Bool.{true}
 use Prim.Native.Nat.{ℕ, _≤_}
 use lib.ListN.{length}
 use Rattle.ltl.specs.Steps.{has, step-at}
-use Rattle.scales.specs.Scales.{Ops}
 use Rattle.ltl.specs.Trees.{Tree}
-use Rattle.ltl.specs.Values.{value}
 use Rattle.ltl.specs.Paths.{Reaches, upright, turned}
 
 -- step y is at least as true for the formula as step x:
@@ -20,7 +18,3 @@ pub record AtLeast (t : Tree) (x y : ℕ) : Type 0 where
 pub record Truer (t : Tree) (xs ys : List ℕ) : Type 0 where
   pub size : length xs ≡ length ys
   pub each : (i : ℕ) → 1 ≤ i → i ≤ length xs → AtLeast t (step-at xs i) (step-at ys i)
-
--- truer steps give truer values
-abbrev pub Order : {V : Type 0} → Ops V → (V → V → Type 0) → Type 0
-Order o p = (t : Tree) (xs ys : List ℕ) → Truer t xs ys → (i : ℕ) → p (value o ys t i) (value o xs t i)

@@ -1,8 +1,7 @@
 -- The value of a formula at a position, once for every scale.
-use mathlib.Core.Path.{_≡_}
 use mathlib.Core.List.{List}
 use mathlib.Core.Bool.{cond}
-use Prim.Native.Nat.{ℕ, zero, suc, _+_, _-_, _<_}
+use Prim.Native.Nat.{ℕ, zero, suc, _+_, _-_}
 use lib.Dec.{leb}
 use lib.ListN.{length}
 use Rattle.ltl.specs.Steps.{has, step-at}
@@ -28,7 +27,3 @@ value o steps (next a) i = o .later (value o steps a (suc i))
 value o steps (until a b) i =
     ahead o (λ j x. o .join (value o steps b j) (meet o (value o steps a j) x)) (length steps + 1 - i) i
 value o steps (eventually a) i = ahead o (λ j x. o .join (value o steps a j) x) (length steps + 1 - i) i
-
--- values after the position after the last step are those there
-abbrev pub Stays : {V : Type 0} → Ops V → Type 0
-Stays o = (steps : List ℕ) (t : Tree) (i : ℕ) → length steps < i → value o steps t i ≡ value o steps t (length steps + 1)

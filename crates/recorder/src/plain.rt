@@ -67,8 +67,9 @@ fn kept_at(p: &PlainRecorder, at: usize) -> Step
     Step::from_bits(word % (1u64 << p.width.max(1).min(32)))
 }
 
-/// Writes the word of one step more.
-fn append(p: &mut PlainRecorder, step: Step)
+/// Writes word n, of one step more.
+fn append(p: &mut PlainRecorder, n: usize, step: Step)
+    requires next { ⌜ n ≡ length (plain-steps (now p)) ⌝ }
     requires fits { ⌜ set-of step < 2 ^ plain-width (now p) ⌝ }
     requires room { ⌜ length (plain-steps (now p)) < plain-capacity (now p) ⌝ }
     ensures steps { λ _. ⌜ plain-steps (now (p .exit)) ≡ plain-steps (now (p .entry)) ++ set-of step ∷ [] ⌝ }
@@ -76,7 +77,6 @@ fn append(p: &mut PlainRecorder, step: Step)
     ensures capacity { λ _. ⌜ plain-capacity (now (p .exit)) ≡ plain-capacity (now (p .entry)) ⌝ }
     ensures words { λ _. ⌜ now (now (p .exit) .words) ≡ set (now (now (p .entry) .words)) (length (plain-steps (now (p .entry)))) (set-of step) ⌝ }
 {
-    let n = held(p);
     p.words[n] = step.bits() as u32;
     p.held = n + 1;
 }
@@ -129,7 +129,7 @@ pub impl<'a> Recorder for PlainRecorder<'a> as PlainGrows {
         if n >= self.words.len().min(LIMIT) {
             return Err(RecordFault::NoRoom);
         }
-        append(self, step);
+        append(self, n, step);
         Ok(n + 1)
     }
 }

@@ -11,12 +11,12 @@ pub returns : need.returns
 returns c =
     let p = c .args .p .now in
     let s = c .args .step .bits in
-    let e = c .held-n .ensures .value in
+    let e = c .pre .next in
     let b = c .bits .ensures in
-    let l : c .held-n .result < plain-capacity p = omega (arith, c .pre .room) in
+    let l : c .args .n < plain-capacity p = omega (arith, c .pre .room) in
     record {
-      steps = rw b (more (p .width) (p .held) (p .words .now) (c .held-n .result) s e l (c .pre .fits));
+      steps = rw b (more (p .width) (p .held) (p .words .now) (c .args .n) s e l (c .pre .fits));
       width = refl;
-      capacity = ap capacity-in (length-set (p .words .now) (c .held-n .result) (c .bits .result));
+      capacity = ap capacity-in (length-set (p .words .now) (c .args .n) (c .bits .result));
       words = rw (b, e) refl;
     }

@@ -12,7 +12,7 @@ use Rattle.scales.specs.Truths.{truth-ops, mirror}
 use Rattle.scales.specs.Pairs.{pair, pair-ops}
 use Rattle.ltl.specs.Trees.{Tree, not}
 use Rattle.ltl.specs.Values.{value}
-use Rattle.ltl.specs.Cuts.{Decide, Agree}
+use Rattle.ltl.specs.Cuts.{Decide, Agrees}
 use Rattle.scales.specs.declared.truth.Truth.{Truth}
 use Rattle.scales.specs.declared.truth.Truth.the-variants.{False, Undecided, True}
 use Rattle.scales.specs.declared.pair.Count.{Count}
@@ -37,7 +37,7 @@ module _ (steps : List ℕ) (few : length steps ≤ 4096) where
       let l = near (length steps) i (z .0) _ (fit steps few t i) (z .1) in
       whole t i ∙ rw (z .1, le-leb (i + z .0) (length steps) l)
 
-pub agree : Agree
+pub agree : (steps : List ℕ) → length steps ≤ 4096 → (t : Tree) (i : ℕ) → Agrees steps t i
 unfolding value
 agree steps few t i = record {
   true-when = (to steps few t i, from steps few t i);
