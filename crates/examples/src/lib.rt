@@ -29,8 +29,13 @@ mod tests {
     use values::grid::columns::truths;
 
     const A: Row = Row::Signal(0);
+
     const B: Row = Row::Signal(1);
-    const NONE: Pair = Pair { s: Count::Impossible, f: Count::Impossible };
+
+    const NONE: Pair = Pair {
+        s: Count::Impossible,
+        f: Count::Impossible,
+    };
 
     // The pair of the last row at position 1, over steps of two signals.
     fn first_pair(rows: &[Row], steps: &[u64]) -> Result<Pair, Fail> {
@@ -48,20 +53,36 @@ mod tests {
         let mut cells = [NONE; 64];
         pairs(&formula, &recorder, &mut cells)?;
         let positions = recorder.len().saturating_add(1);
-        Ok(Grid::new(&mut cells, rows.len(), positions).get(watch, 1).ok_or("no cell")?)
+        Ok(
+            Grid::new(&mut cells, rows.len(), positions)
+                .get(watch, 1)
+                .ok_or("no cell")?,
+        )
     }
 
     #[test]
     fn worked_examples() -> Result<(), Fail> {
         let three = Count::Number(3);
         let eventually = [A, Row::Eventually(0)];
-        check_eq(first_pair(&eventually, &[0, 0, 0])?, Pair { s: three, f: Count::Infinite })?;
+        check_eq(
+            first_pair(&eventually, &[0, 0, 0])?,
+            Pair::new(three, Count::Infinite),
+        )?;
         let always = [A, Row::Not(0), Row::Eventually(1), Row::Not(2)];
-        check_eq(first_pair(&always, &[1, 1, 1])?, Pair { s: Count::Infinite, f: three })?;
+        check_eq(
+            first_pair(&always, &[1, 1, 1])?,
+            Pair::new(Count::Infinite, three),
+        )?;
         let either = [A, Row::Not(0), Row::Or(0, 1)];
-        check_eq(first_pair(&either, &[])?, Pair { s: Count::Number(0), f: Count::Number(0) })?;
+        check_eq(
+            first_pair(&either, &[])?,
+            Pair::new(Count::Number(0), Count::Number(0)),
+        )?;
         let until = [A, B, Row::Until(0, 1)];
-        check_eq(first_pair(&until, &[1])?, Pair { s: Count::Number(1), f: Count::Number(1) })
+        check_eq(
+            first_pair(&until, &[1])?,
+            Pair::new(Count::Number(1), Count::Number(1)),
+        )
     }
 
     #[test]
@@ -69,9 +90,9 @@ mod tests {
         let heap = rt.alloc();
         let step = Step::from_bits(9);
         check(format!(heap, "{step}")?.as_str() == "{0, 3}")?;
-        let pair = Pair { s: Count::Number(3), f: Count::Infinite };
+        let pair = Pair::new(Count::Number(3), Count::Infinite);
         check(format!(heap, "{pair}")?.as_str() == "(3, inf)")?;
-        let pair = Pair { s: Count::Impossible, f: Count::Number(0) };
+        let pair = Pair::new(Count::Impossible, Count::Number(0));
         check(format!(heap, "{pair}")?.as_str() == "(-, 0)")
     }
 
@@ -84,7 +105,9 @@ mod tests {
         check(Formula::new(1, &[A], 1).is_none()).note("no watch row")?;
         check(Formula::new(0, &[A], 0).is_none()).note("no signal")?;
         check(Formula::new(33, &[A], 0).is_none()).note("33 signals")?;
-        check(Formula::new(32, &[Row::Signal(31); 64], 63).is_some()).note("32 signals and 64 rows")?;
+        check(Formula::new(32, &[Row::Signal(31); 64], 63).is_some()).note(
+            "32 signals and 64 rows",
+        )?;
         check(Formula::new(32, &[Row::Signal(31); 65], 0).is_none()).note("65 rows")
     }
 
@@ -98,7 +121,11 @@ mod tests {
 
     #[test]
     fn openings() -> Result<(), Fail> {
-        let ten = Refusal { question: 10, part: Part::Recording, place: 0 };
+        let ten = Refusal {
+            question: 10,
+            part: Part::Recording,
+            place: 0,
+        };
         check_eq(opening(0, &mut [0; 1]), Some(ten))?;
         check_eq(opening(33, &mut [0; 1]), Some(ten))?;
         check_eq(opening(1, &mut []), Some(ten))?;
@@ -122,12 +149,20 @@ mod tests {
                 return Err(Fail::new("not opened"));
             };
             check_eq(recorder.len(), 0)?;
-            let eight = Refusal { question: 8, part: Part::Recording, place: 0 };
+            let eight = Refusal {
+                question: 8,
+                part: Part::Recording,
+                place: 0,
+            };
             check_eq(refused(&mut recorder, 4), Some(eight))?;
             check(!recorder.room(Step::from_bits(4)))?;
             check_eq(refused(&mut recorder, 1), None)?;
             check_eq(refused(&mut recorder, 2), None)?;
-            let nine = Refusal { question: 9, part: Part::Recording, place: 0 };
+            let nine = Refusal {
+                question: 9,
+                part: Part::Recording,
+                place: 0,
+            };
             check_eq(refused(&mut recorder, 0), Some(nine))?;
             check_eq(refused(&mut recorder, 4), Some(eight)).note("8 is asked before 9")?;
             check_eq(recorder.len(), 2)?;
@@ -152,7 +187,11 @@ mod tests {
         };
         recorder.record(Step::empty())?;
         let mut cells = [Truth::True; 5];
-        let seventeen = Refusal { question: 17, part: Part::Watch, place: 0 };
+        let seventeen = Refusal {
+            question: 17,
+            part: Part::Watch,
+            place: 0,
+        };
         match truths(&formula, &recorder, &mut cells[0..3]) {
             Ok(()) => return Err(Fail::new("three cells for two rows and two positions")),
             Err(fault) => check_eq(fault.refusal(), seventeen)?,

@@ -41,7 +41,8 @@ pub agree : (steps : List ℕ) → length steps ≤ 4096 → (t : Tree) (i : ℕ
 unfolding value
 agree steps few t i = record {
   true-when = (to steps few t i, from steps few t i);
-  false-when =
-    ( (λ d. let z = to steps few (not t) i (ap mirror d) in (z .0, ap (λ p. pair (p .f) (p .s)) (z .1)))
-    , (λ z. mirrored (value truth-ops steps t i) (from steps few (not t) i (z .0, ap (λ p. pair (p .f) (p .s)) (z .1)))));
+  false-when = (
+    (λ d. let z = to steps few (not t) i (ap mirror d) in (z .0, ap (λ p. pair (p .f) (p .s)) (z .1))),
+    (λ z. mirrored (value truth-ops steps t i) (from steps few (not t) i (z .0, ap (λ p. pair (p .f) (p .s)) (z .1)))),
+  );
 }

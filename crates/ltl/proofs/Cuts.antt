@@ -89,22 +89,22 @@ cut-far n m i _ _ inf inf = refl
 min-test : (m i a b : ℕ) → cond (leb (i + min a b) m) True Undecided ≡ upper (cond (leb (i + a) m) True Undecided) (cond (leb (i + b) m) True Undecided)
 min-test m i a b =
     ⊎-elim
-      (λ h. ⊎-elim
-        (λ k. let x = lt-leb (i + a) m h in let y = lt-leb (i + b) m k in let z = lt-leb (i + min a b) m (omega arith) in rw (x, y, z))
-        (λ k. let x = lt-leb (i + a) m h in let y = le-leb (i + b) m k in let z = le-leb (i + min a b) m (omega arith) in rw (x, y, z))
-        (cases-lt m (i + b)))
-      (λ h. let x = le-leb (i + a) m h in let z = le-leb (i + min a b) m (omega arith) in rw (x, z))
-      (cases-lt m (i + a))
+    (λ h. ⊎-elim
+    (λ k. let x = lt-leb (i + a) m h in let y = lt-leb (i + b) m k in let z = lt-leb (i + min a b) m (omega arith) in rw (x, y, z))
+    (λ k. let x = lt-leb (i + a) m h in let y = le-leb (i + b) m k in let z = le-leb (i + min a b) m (omega arith) in rw (x, y, z))
+    (cases-lt m (i + b)))
+    (λ h. let x = le-leb (i + a) m h in let z = le-leb (i + min a b) m (omega arith) in rw (x, z))
+    (cases-lt m (i + a))
 
 max-test : (m i a b : ℕ) → cond (leb (i + max a b) m) False Undecided ≡ upper (cond (leb (i + a) m) False Undecided) (cond (leb (i + b) m) False Undecided)
 max-test m i a b =
     ⊎-elim
-      (λ h. let x = lt-leb (i + a) m h in let z = lt-leb (i + max a b) m (omega arith) in rw (x, z) (low (leb (i + b) m)))
-      (λ h. ⊎-elim
-        (λ k. let x = le-leb (i + a) m h in let y = lt-leb (i + b) m k in let z = lt-leb (i + max a b) m (omega arith) in rw (x, y, z))
-        (λ k. let x = le-leb (i + a) m h in let y = le-leb (i + b) m k in let z = le-leb (i + max a b) m (omega arith) in rw (x, y, z))
-        (cases-lt m (i + b)))
-      (cases-lt m (i + a))
+    (λ h. let x = lt-leb (i + a) m h in let z = lt-leb (i + max a b) m (omega arith) in rw (x, z) (low (leb (i + b) m)))
+    (λ h. ⊎-elim
+    (λ k. let x = le-leb (i + a) m h in let y = lt-leb (i + b) m k in let z = lt-leb (i + max a b) m (omega arith) in rw (x, y, z))
+    (λ k. let x = le-leb (i + a) m h in let y = le-leb (i + b) m k in let z = le-leb (i + max a b) m (omega arith) in rw (x, y, z))
+    (cases-lt m (i + b)))
+    (cases-lt m (i + a))
   where
     low : (t : Bool) → Undecided ≡ upper Undecided (cond t False Undecided)
     low true = refl
@@ -234,8 +234,8 @@ module _ (n i : ℕ) where
   meet-cuts : (p q : Pair) → Fit n i p → Fit n i q → (m : ℕ) → m ≤ n → cut-pair m i (meet pair-ops p q) ≡ meet truth-ops (cut-pair m i p) (cut-pair m i q)
   meet-cuts p q h k m l =
       cut-turn m i (least (p .f) (q .f)) (most (p .s) (q .s))
-        ∙ ap mirror (joined _ _ (fit-turn p h) (fit-turn q k) .cuts m l
-        ∙ rw (cut-turn m i (p .s) (p .f), cut-turn m i (q .s) (q .f)))
+      ∙ ap mirror (joined _ _ (fit-turn p h) (fit-turn q k) .cuts m l
+      ∙ rw (cut-turn m i (p .s) (p .f), cut-turn m i (q .s) (q .f)))
 
   -- after the end
   open-join : n < i → (p : Pair) → Fit n i p → Fit n i (pair-ops .join p (pair-ops .«open»))
@@ -276,24 +276,24 @@ module _ (steps : List ℕ) (few : length steps ≤ 4096) where
   unfolding value
   fit (signal k) i =
       ⊎-elim
-        (λ h. rw (signal-past pair-ops steps k i h) (und (Number 0) (Number 0) (num 0 (omega arith)) (num 0 (omega arith))))
-        (λ h. rw (signal-in pair-ops steps k i h) (fit-sig (has (step-at steps i) k) i h))
-        (cases-lt (length steps) i)
+      (λ h. rw (signal-past pair-ops steps k i h) (und (Number 0) (Number 0) (num 0 (omega arith)) (num 0 (omega arith))))
+      (λ h. rw (signal-in pair-ops steps k i h) (fit-sig (has (step-at steps i) k) i h))
+      (cases-lt (length steps) i)
   fit (not a) i = fit-turn (length steps) i _ (fit a i)
   fit (or a b) i = joins (length steps) i _ _ (fit a i) (fit b i)
   fit (next a) i = fit-later (length steps) i few _ (fit a (suc i))
   fit (until a b) i =
       let n = length steps in
       back n (λ i. Fit n i (value pair-ops steps (until a b) i))
-        (λ i h. rw (until-past pair-ops steps a b i h) (open-until n i h _ _ (fit a i) (fit b i)))
-        (λ i h r. rw (until-in pair-ops steps a b i h) (joins n i _ _ (fit b i) (meets n i _ _ (fit a i) (fit-later n i few _ r))))
-        i
+      (λ i h. rw (until-past pair-ops steps a b i h) (open-until n i h _ _ (fit a i) (fit b i)))
+      (λ i h r. rw (until-in pair-ops steps a b i h) (joins n i _ _ (fit b i) (meets n i _ _ (fit a i) (fit-later n i few _ r))))
+      i
   fit (eventually a) i =
       let n = length steps in
       back n (λ i. Fit n i (value pair-ops steps (eventually a) i))
-        (λ i h. rw (eventually-past pair-ops steps a i h) (open-join n i h _ (fit a i)))
-        (λ i h r. rw (eventually-in pair-ops steps a i h) (joins n i _ _ (fit a i) (fit-later n i few _ r)))
-        i
+      (λ i h. rw (eventually-past pair-ops steps a i h) (open-join n i h _ (fit a i)))
+      (λ i h r. rw (eventually-in pair-ops steps a i h) (joins n i _ _ (fit a i) (fit-later n i few _ r)))
+      i
 
 -- after the last step nothing is decided
 pub late : (steps : List ℕ) (t : Tree) (i : ℕ) → length steps < i → value truth-ops steps t i ≡ Undecided
@@ -332,9 +332,9 @@ module _ (steps : List ℕ) (few : length steps ≤ 4096) (m : ℕ) (within : m 
   after-cut (signal k) i =
       let e = size in
       ⊎-elim
-        (λ h. after (signal k) i h)
-        (λ h. signal-in truth-ops before k i (omega arith) ∙ rw (step-at-take m steps i h, signal-in pair-ops steps k i (omega arith)) (cut-sig (has (step-at steps i) k) i h))
-        (cases-lt m i)
+      (λ h. after (signal k) i h)
+      (λ h. signal-in truth-ops before k i (omega arith) ∙ rw (step-at-take m steps i h, signal-in pair-ops steps k i (omega arith)) (cut-sig (has (step-at steps i) k) i h))
+      (cases-lt m i)
   after-cut (not a) i = ap mirror (after-cut a i) ∙ sym (cut-turn m i (value pair-ops steps a i .s) (value pair-ops steps a i .f))
   after-cut (or a b) i = rw (after-cut a i, after-cut b i) (sym (joined (length steps) i _ _ (fit steps few a i) (fit steps few b i) .cuts m within))
   after-cut (next a) i = after-cut a (suc i) ∙ sym (cut-later (length steps) i few _ (fit steps few a (suc i)) m)
@@ -342,27 +342,27 @@ module _ (steps : List ℕ) (few : length steps ≤ 4096) (m : ℕ) (within : m 
       let n = length steps in
       let e = size in
       back m (Same (until a b))
-        (λ i h. after (until a b) i h)
-        (λ i h r.
-          let p = fit steps few a i in
-          let q = fit steps few b i in
-          let x = fit steps few (until a b) (suc i) in
-          let y = fit-later n i few _ x in
-          until-in truth-ops before a b i (omega arith)
-            ∙ rw (after-cut a i, after-cut b i, r, until-in pair-ops steps a b i (omega arith))
-              (rw (← cut-later n i few _ x m, ← meet-cuts n i _ _ p y m within) (sym (joined n i _ _ q (meets n i _ _ p y) .cuts m within))))
-        i
+      (λ i h. after (until a b) i h)
+      (λ i h r.
+      let p = fit steps few a i in
+      let q = fit steps few b i in
+      let x = fit steps few (until a b) (suc i) in
+      let y = fit-later n i few _ x in
+      until-in truth-ops before a b i (omega arith)
+      ∙ rw (after-cut a i, after-cut b i, r, until-in pair-ops steps a b i (omega arith))
+      (rw (← cut-later n i few _ x m, ← meet-cuts n i _ _ p y m within) (sym (joined n i _ _ q (meets n i _ _ p y) .cuts m within))))
+      i
   after-cut (eventually a) i =
       let n = length steps in
       let e = size in
       back m (Same (eventually a))
-        (λ i h. after (eventually a) i h)
-        (λ i h r.
-          let x = fit steps few (eventually a) (suc i) in
-          eventually-in truth-ops before a i (omega arith)
-            ∙ rw (after-cut a i, r, eventually-in pair-ops steps a i (omega arith))
-              (rw (← cut-later n i few _ x m) (sym (joined n i _ _ (fit steps few a i) (fit-later n i few _ x) .cuts m within))))
-        i
+      (λ i h. after (eventually a) i h)
+      (λ i h r.
+      let x = fit steps few (eventually a) (suc i) in
+      eventually-in truth-ops before a i (omega arith)
+      ∙ rw (after-cut a i, r, eventually-in pair-ops steps a i (omega arith))
+      (rw (← cut-later n i few _ x m) (sym (joined n i _ _ (fit steps few a i) (fit-later n i few _ x) .cuts m within))))
+      i
 
 shape : (n i : ℕ) (p : Pair) → Fit n i p → Shape p
 shape n i _ (sat a h) = true-after a
@@ -394,11 +394,11 @@ never-low false e = true≢false (cc)
 only : (n i a : ℕ) (p : Pair) → Fit n i p → i + a ≤ n → cut-pair (i + a) i p ≡ True → ((k : ℕ) → k < i + a → cut-pair k i p ≡ True → ⊥) → p ≡ pair (Number a) Impossible
 only n i a _ (sat b h) l e f =
     ⊎-elim
-      (λ z. ap (λ x. pair (Number x) Impossible) (sym z))
-      (⊎-elim
-        (λ z. absurd (not-und (rw (lt-leb (i + b) (i + a) (omega arith)) at e)))
-        (λ z. absurd (f (i + b) (omega arith) (rw (le-leb (i + b) (i + b) (omega arith))))))
-      (cases-order a b)
+    (λ z. ap (λ x. pair (Number x) Impossible) (sym z))
+    (⊎-elim
+    (λ z. absurd (not-und (rw (lt-leb (i + b) (i + a) (omega arith)) at e)))
+    (λ z. absurd (f (i + b) (omega arith) (rw (le-leb (i + b) (i + b) (omega arith))))))
+    (cases-order a b)
 only n i a _ (vio b h) l e f = absurd (never-low (leb (i + b) (i + a)) e)
 only n i a _ (und x y h k) l e f = absurd (not-und (sym (cut-far n (i + a) i x y h k) ∙ e))
 
@@ -410,15 +410,15 @@ module _ (steps : List ℕ) (few : length steps ≤ 4096) (t : Tree) (i a : ℕ)
         inside = l;
         decides = after-cut steps few (i + a) l t i ∙ rw (e, le-leb (i + a) (i + a) (omega arith));
         shortest = λ k h d.
-          let g : k ≤ length steps = omega arith in
-          not-und (sym (after-cut steps few k g t i ∙ rw (e, lt-leb (i + a) k h)) ∙ d);
+            let g : k ≤ length steps = omega arith in
+            not-und (sym (after-cut steps few k g t i ∙ rw (e, lt-leb (i + a) k h)) ∙ d);
       }
 
   counts : FirstCut steps t i True (i + a) → value pair-ops steps t i ≡ pair (Number a) Impossible
   counts c =
       only (length steps) i a _ (fit steps few t i) (c .inside)
-        (sym (after-cut steps few (i + a) (c .inside) t i) ∙ c .decides)
-        (λ k h d. let l : k ≤ length steps = omega (arith, c .inside) in c .shortest k h (after-cut steps few k l t i ∙ d))
+      (sym (after-cut steps few (i + a) (c .inside) t i) ∙ c .decides)
+      (λ k h d. let l : k ≤ length steps = omega (arith, c .inside) in c .shortest k h (after-cut steps few k l t i ∙ d))
 
 pub mirrored : (v : Truth) → mirror v ≡ True → v ≡ False
 mirrored False e = refl
@@ -447,7 +447,8 @@ pub cuts : (steps : List ℕ) → length steps ≤ 4096 → (t : Tree) (i : ℕ)
 unfolding value
 cuts steps few t i = record {
   true-at = λ a. (first steps few t i a, counts steps few t i a);
-  false-at = λ a.
-    ( (λ e. turned-cut steps t i (i + a) (first steps few (not t) i a (ap (λ p. pair (p .f) (p .s)) e)))
-    , (λ c. ap (λ p. pair (p .f) (p .s)) (counts steps few (not t) i a (cut-turned steps t i (i + a) c))));
+  false-at = λ a. (
+    (λ e. turned-cut steps t i (i + a) (first steps few (not t) i a (ap (λ p. pair (p .f) (p .s)) e))),
+    (λ c. ap (λ p. pair (p .f) (p .s)) (counts steps few (not t) i a (cut-turned steps t i (i + a) c))),
+  );
 }

@@ -45,11 +45,11 @@ module _ (width : ℕ) (some : 1 ≤ width) where
   push-below : (ts : List Tree) → ((k : ℕ) → SignalsBelow width (tree-at ts k)) → (t : Tree) → SignalsBelow width t → (k : ℕ) → SignalsBelow width (tree-at (ts ++ t ∷ []) k)
   push-below ts h t l k =
       ⊎-elim
-        (λ e. rw (getD-push ts t (signal 0) k (sym e)) l)
-        (⊎-elim
-          (λ e. rw (getD-append-left ts (t ∷ []) (signal 0) k e) (h k))
-          (λ e. let z = length-push ts t in rw (getD-past (ts ++ t ∷ []) k (signal 0) (omega arith)) default-below))
-        (cases-order k (length ts))
+      (λ e. rw (getD-push ts t (signal 0) k (sym e)) l)
+      (⊎-elim
+      (λ e. rw (getD-append-left ts (t ∷ []) (signal 0) k e) (h k))
+      (λ e. let z = length-push ts t in rw (getD-past (ts ++ t ∷ []) k (signal 0) (omega arith)) default-below))
+      (cases-order k (length ts))
 
   after-below : (ts : List Tree) (xs : List Row) → ((k : ℕ) → SignalsBelow width (tree-at ts k)) → ((r : ℕ) → RowBelow width (getD xs r (Signal 0))) → (k : ℕ) → SignalsBelow width (tree-at (trees-after ts xs) k)
   unfolding trees-after
@@ -58,9 +58,9 @@ module _ (width : ℕ) (some : 1 ≤ width) where
 
   each-below : (rows : List Row) → ((r : ℕ) → r < length rows → Fits width r (getD rows r (Signal 0))) → (r : ℕ) → RowBelow width (getD rows r (Signal 0))
   each-below rows fit r = ⊎-elim
-    (λ (h : r < length rows). row-below width r (getD rows r (Signal 0)) (fit r h))
-    (λ (h : length rows ≤ r). rw (getD-past rows r (Signal 0) h) some)
-    (cases-lt r (length rows))
+      (λ (h : r < length rows). row-below width r (getD rows r (Signal 0)) (fit r h))
+      (λ (h : length rows ≤ r). rw (getD-past rows r (Signal 0) h) some)
+      (cases-lt r (length rows))
 
   pub narrow : (rows : List Row) → ((r : ℕ) → r < length rows → Fits width r (getD rows r (Signal 0))) → (r : ℕ) → SignalsBelow width (tree-at (trees rows) r)
   narrow rows fit r = after-below [] rows (λ k. default-below) (each-below rows fit) r

@@ -86,25 +86,25 @@ module _ (u : Bool) (w : ℕ → ℕ) (steps : List ℕ) (c : Continues steps w)
   eventually-low : (a : Tree) (i : ℕ) → Low (eventually a) i → (k : ℕ) → i ≤ k → Low a k
   eventually-low a =
       back (length steps) (λ i. Low (eventually a) i → (k : ℕ) → i ≤ k → Low a k)
-        (λ i h g k l. late-low (eventually a) a i k h (omega arith) g)
-        (λ i h r g k l.
-          let q = enough-low u _ _ (rw (eventually-in truth-ops steps a i h) at g) in
-          ⊎-elim
-            (λ m. r (q .1) k m)
-            (λ m. let z : k ≡ i = omega arith in rw z (q .0))
-            (cases-lt i k))
+      (λ i h g k l. late-low (eventually a) a i k h (omega arith) g)
+      (λ i h r g k l.
+      let q = enough-low u _ _ (rw (eventually-in truth-ops steps a i h) at g) in
+      ⊎-elim
+      (λ m. r (q .1) k m)
+      (λ m. let z : k ≡ i = omega arith in rw z (q .0))
+      (cases-lt i k))
 
   reads : (a : Tree) → Reads a
   unfolding value
   reads (signal k) = record {
     holds = λ f i o g. ⊎-elim
-      (λ h. f (rw (signal-past truth-ops steps k i h) at g) i h k .0 refl)
-      (λ h. rw (c i o h) (is-yes (has (step-at steps i) k) (rw (signal-in truth-ops steps k i h) at g)))
-      (cases-lt (length steps) i);
+        (λ h. f (rw (signal-past truth-ops steps k i h) at g) i h k .0 refl)
+        (λ h. rw (c i o h) (is-yes (has (step-at steps i) k) (rw (signal-in truth-ops steps k i h) at g)))
+        (cases-lt (length steps) i);
     fails = λ f i o g. ⊎-elim
-      (λ h. f (rw (signal-past truth-ops steps k i h) at g) i h k .1 refl)
-      (λ h. rw (c i o h) (is-no (has (step-at steps i) k) (rw (signal-in truth-ops steps k i h) at g)))
-      (cases-lt (length steps) i);
+        (λ h. f (rw (signal-past truth-ops steps k i h) at g) i h k .1 refl)
+        (λ h. rw (c i o h) (is-no (has (step-at steps i) k) (rw (signal-in truth-ops steps k i h) at g)))
+        (cases-lt (length steps) i);
   }
   reads (not a) = let r = reads a in record {
     holds = λ f i o g. r .fails f i o g;
@@ -112,12 +112,12 @@ module _ (u : Bool) (w : ℕ → ℕ) (steps : List ℕ) (c : Continues steps w)
   }
   reads (or a b) = let r = reads a in let s = reads b in record {
     holds = λ f i o g. ⊎-elim
-      (λ x. inl (r .holds (λ e j h k. ((λ p. f e j h k .0 (inl p)), (λ p. f e j h k .1 (inl p)))) i o x))
-      (λ x. inr (s .holds (λ e j h k. ((λ p. f e j h k .0 (inr p)), (λ p. f e j h k .1 (inr p)))) i o x))
-      (enough-upper u _ _ g);
+        (λ x. inl (r .holds (λ e j h k. ((λ p. f e j h k .0 (inl p)), (λ p. f e j h k .1 (inl p)))) i o x))
+        (λ x. inr (s .holds (λ e j h k. ((λ p. f e j h k .0 (inr p)), (λ p. f e j h k .1 (inr p)))) i o x))
+        (enough-upper u _ _ g);
     fails = λ f i o g. let q = enough-low u _ _ g in ⊎-elim
-      (r .fails (λ e j h k. ((λ p. f e j h k .0 (inl p)), (λ p. f e j h k .1 (inl p)))) i o (q .0))
-      (s .fails (λ e j h k. ((λ p. f e j h k .0 (inr p)), (λ p. f e j h k .1 (inr p)))) i o (q .1));
+        (r .fails (λ e j h k. ((λ p. f e j h k .0 (inl p)), (λ p. f e j h k .1 (inl p)))) i o (q .0))
+        (s .fails (λ e j h k. ((λ p. f e j h k .0 (inr p)), (λ p. f e j h k .1 (inr p)))) i o (q .1));
   }
   reads (next a) = let r = reads a in record {
     holds = λ f i o g. r .holds f (suc i) (omega arith) g;
@@ -125,40 +125,44 @@ module _ (u : Bool) (w : ℕ → ℕ) (steps : List ℕ) (c : Continues steps w)
   }
   reads (until a b) = let r = reads a in let s = reads b in record {
     holds = λ f.
-      let f₁ : Leans u w (length steps) a upright = λ e j h k. ((λ p. f e j h k .0 (inl p)), (λ p. f e j h k .1 (inl p))) in
-      let f₂ : Leans u w (length steps) b upright = λ e j h k. ((λ p. f e j h k .0 (inr p)), (λ p. f e j h k .1 (inr p))) in
-      back (length steps) (λ i. 1 ≤ i → High (until a b) i → Holds w (until a b) i)
+        let f₁ : Leans u w (length steps) a upright = λ e j h k. ((λ p. f e j h k .0 (inl p)), (λ p. f e j h k .1 (inl p))) in
+        let f₂ : Leans u w (length steps) b upright = λ e j h k. ((λ p. f e j h k .0 (inr p)), (λ p. f e j h k .1 (inr p))) in
+        back (length steps) (λ i. 1 ≤ i → High (until a b) i → Holds w (until a b) i)
         (λ i h o g. (i, omega arith, s .holds f₂ i o (late-high (until a b) b i i h h g), λ j p q. absurd (omega arith)))
         (λ i h t o g. ⊎-elim
-          (λ x. (i, omega arith, s .holds f₂ i o x, λ j p q. absurd (omega arith)))
-          (λ y.
-            let q = enough-meet u (value truth-ops steps a i) (value truth-ops steps (until a b) (suc i)) y in
-            let z = t (omega arith) (q .1) in
-            (z .0, omega (arith, z .1), z .2, λ j m l. ⊎-elim
+        (λ x. (i, omega arith, s .holds f₂ i o x, λ j p q. absurd (omega arith)))
+        (λ y.
+        let q = enough-meet u (value truth-ops steps a i) (value truth-ops steps (until a b) (suc i)) y in
+        let z = t (omega arith) (q .1) in (
+          z .0,
+          omega (arith, z .1),
+          z .2,
+          λ j m l. ⊎-elim
               (λ d. z .3 j d l)
               (λ d. let e : j ≡ i = omega arith in rw e (r .holds f₁ i o (q .0)))
-              (cases-lt i j)))
-          (enough-upper u _ _ (rw (until-in truth-ops steps a b i h) at g)));
+              (cases-lt i j),
+        ))
+        (enough-upper u _ _ (rw (until-in truth-ops steps a b i h) at g)));
     fails = λ f.
-      let f₁ : Leans u w (length steps) a turned = λ e j h k. ((λ p. f e j h k .0 (inl p)), (λ p. f e j h k .1 (inl p))) in
-      let f₂ : Leans u w (length steps) b turned = λ e j h k. ((λ p. f e j h k .0 (inr p)), (λ p. f e j h k .1 (inr p))) in
-      back (length steps) (λ i. 1 ≤ i → Low (until a b) i → Holds w (until a b) i → ⊥)
+        let f₁ : Leans u w (length steps) a turned = λ e j h k. ((λ p. f e j h k .0 (inl p)), (λ p. f e j h k .1 (inl p))) in
+        let f₂ : Leans u w (length steps) b turned = λ e j h k. ((λ p. f e j h k .0 (inr p)), (λ p. f e j h k .1 (inr p))) in
+        back (length steps) (λ i. 1 ≤ i → Low (until a b) i → Holds w (until a b) i → ⊥)
         (λ i h o g z. let l = z .1 in s .fails f₂ (z .0) (omega arith) (late-low (until a b) b i (z .0) h (omega arith) g) (z .2))
         (λ i h t o g z.
-          let l = z .1 in
-          let q = enough-low u _ _ (rw (until-in truth-ops steps a b i h) at g) in
-          ⊎-elim
-            (λ d. ⊎-elim
-              (λ x. r .fails f₁ i o x (z .3 i (omega arith) d))
-              (λ y. t (omega arith) y (z .0, d, z .2, λ j m n. z .3 j (omega arith) n))
-              (enough-low-meet u (value truth-ops steps a i) (value truth-ops steps (until a b) (suc i)) (q .1)))
-            (λ d. let e : z .0 ≡ i = omega arith in s .fails f₂ i o (q .0) (rw e at (z .2)))
-            (cases-lt i (z .0)));
+        let l = z .1 in
+        let q = enough-low u _ _ (rw (until-in truth-ops steps a b i h) at g) in
+        ⊎-elim
+        (λ d. ⊎-elim
+        (λ x. r .fails f₁ i o x (z .3 i (omega arith) d))
+        (λ y. t (omega arith) y (z .0, d, z .2, λ j m n. z .3 j (omega arith) n))
+        (enough-low-meet u (value truth-ops steps a i) (value truth-ops steps (until a b) (suc i)) (q .1)))
+        (λ d. let e : z .0 ≡ i = omega arith in s .fails f₂ i o (q .0) (rw e at (z .2)))
+        (cases-lt i (z .0)));
   }
   reads (eventually a) = let r = reads a in record {
     holds = λ f. back (length steps) (λ i. 1 ≤ i → High (eventually a) i → Holds w (eventually a) i)
-      (λ i h o g. (i, omega arith, r .holds f i o (late-high (eventually a) a i i h h g)))
-      (λ i h t o g. ⊎-elim
+        (λ i h o g. (i, omega arith, r .holds f i o (late-high (eventually a) a i i h h g)))
+        (λ i h t o g. ⊎-elim
         (λ x. (i, omega arith, r .holds f i o x))
         (λ y. let z = t (omega arith) y in (z .0, omega (arith, z .1), z .2))
         (enough-upper u _ _ (rw (eventually-in truth-ops steps a i h) at g)));
@@ -232,24 +236,25 @@ goes-on : (width : ℕ) (steps : List ℕ) → StepsBelow width steps → (test 
 goes-on width steps low test = record {
   begins = onward-in steps (step-of width test);
   within = λ i. ⊎-elim
-    (λ h. rw (onward-past steps (step-of width test) i h) (step-of-below width test))
-    (λ h. rw (le-leb i (length steps) h) (low i))
-    (cases-lt (length steps) i);
+      (λ h. rw (onward-past steps (step-of width test) i h) (step-of-below width test))
+      (λ h. rw (le-leb i (length steps) h) (low i))
+      (cases-lt (length steps) i);
 }
 
 -- on these continuations the row leans to the side p
 leaning : (width : ℕ) (steps : List ℕ) (t : Tree) (p : Side) → ((k : ℕ) → Reaches t p k → k < width) → ((k : ℕ) → Reaches t (other p) k → k < width) → ((k : ℕ) → Reaches t p k → Reaches t (other p) k → ⊥) → Leans true (onward steps (step-of width (reaches t p))) (length steps) t p
 leaning width steps t p near far single e i h k =
-    let x = step-of width (reaches t p) in
-    ( (λ r. rw (onward-past steps x i h) (has-step-of width (reaches t p) k (near k r) ∙ reaching t p k r))
-    , (λ r q. single k (reached t p k (sym (has-step-of width (reaches t p) k (far k r)) ∙ rw (onward-past steps x i h) at q)) r))
+    let x = step-of width (reaches t p) in (
+      (λ r. rw (onward-past steps x i h) (has-step-of width (reaches t p) k (near k r) ∙ reaching t p k r)),
+      (λ r q. single k (reached t p k (sym (has-step-of width (reaches t p) k (far k r)) ∙ rw (onward-past steps x i h) at q)) r),
+    )
 
 pub open-both : (width : ℕ) (steps : List ℕ) → StepsBelow width steps → (t : Tree) → SignalsBelow width t → OneSided t → (i : ℕ) → 1 ≤ i → Decide steps t i Undecided → BothWays width steps t i
 open-both width steps low t under single i o d = record {
   one = goes-on width steps low (reaches t upright);
   holds = reads true (best width steps t) steps (onward-in steps _) t .holds
-    (leaning width steps t upright (λ k. under k .0) (λ k. under k .1) single) i o (rw d tt);
+      (leaning width steps t upright (λ k. under k .0) (λ k. under k .1) single) i o (rw d tt);
   another = goes-on width steps low (reaches t turned);
   fails = reads true (worst width steps t) steps (onward-in steps _) t .fails
-    (leaning width steps t turned (λ k. under k .1) (λ k. under k .0) (λ k x y. single k y x)) i o (rw d tt);
+      (leaning width steps t turned (λ k. under k .1) (λ k. under k .0) (λ k x y. single k y x)) i o (rw d tt);
 }

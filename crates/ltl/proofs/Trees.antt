@@ -49,7 +49,7 @@ made-after width ts (x ∷ xs) zero h u =
     let z : length ts + 0 ≡ length ts = omega arith in
     let here : tree-at (trees-after us xs) (length ts) ≡ tree-of ts x = kept us xs (length ts) (omega arith) ∙ getD-push ts (tree-of ts x) (signal 0) (length ts) refl in
     let same : tree-of ts x ≡ tree-of (trees-after us xs) x =
-          alike width ts (trees-after us xs) (length ts) (λ k b. sym (kept us xs k (omega arith) ∙ getD-append-left ts (tree-of ts x ∷ []) (signal 0) k b)) x (rw z at u) in
+    alike width ts (trees-after us xs) (length ts) (λ k b. sym (kept us xs k (omega arith) ∙ getD-append-left ts (tree-of ts x ∷ []) (signal 0) k b)) x (rw z at u) in
     rw z (here ∙ same)
 made-after width ts (x ∷ xs) (suc k) h u =
     let us = ts ++ tree-of ts x ∷ [] in
@@ -84,16 +84,16 @@ module _ {V : Type 0} (o : Ops V) (steps : List ℕ) where
   eventually-rest : (a : Tree) (i : ℕ) → value o steps (eventually a) i ≡ o .join (value o steps a i) (rest o (length steps) (value o steps (eventually a)) i)
   eventually-rest a i =
       ⊎-elim
-        (λ h. rw add-one (eventually-in o steps a i h) ∙ ap (o .join (value o steps a i)) (sym (cond-true (leb i (length steps)) _ _ (le-leb i (length steps) h))))
-        (λ h. eventually-past o steps a i h ∙ ap (o .join (value o steps a i)) (sym (cond-false (leb i (length steps)) _ _ (lt-leb i (length steps) h))))
-        (cases-le i (length steps))
+      (λ h. rw add-one (eventually-in o steps a i h) ∙ ap (o .join (value o steps a i)) (sym (cond-true (leb i (length steps)) _ _ (le-leb i (length steps) h))))
+      (λ h. eventually-past o steps a i h ∙ ap (o .join (value o steps a i)) (sym (cond-false (leb i (length steps)) _ _ (lt-leb i (length steps) h))))
+      (cases-le i (length steps))
 
   until-rest : (a b : Tree) (i : ℕ) → value o steps (until a b) i ≡ o .join (value o steps b i) (meet o (value o steps a i) (rest o (length steps) (value o steps (until a b)) i))
   until-rest a b i =
       ⊎-elim
-        (λ h. rw add-one (until-in o steps a b i h) ∙ ap (λ x. o .join (value o steps b i) (meet o (value o steps a i) x)) (sym (cond-true (leb i (length steps)) _ _ (le-leb i (length steps) h))))
-        (λ h. until-past o steps a b i h ∙ ap (λ x. o .join (value o steps b i) (meet o (value o steps a i) x)) (sym (cond-false (leb i (length steps)) _ _ (lt-leb i (length steps) h))))
-        (cases-le i (length steps))
+      (λ h. rw add-one (until-in o steps a b i h) ∙ ap (λ x. o .join (value o steps b i) (meet o (value o steps a i) x)) (sym (cond-true (leb i (length steps)) _ _ (le-leb i (length steps) h))))
+      (λ h. until-past o steps a b i h ∙ ap (λ x. o .join (value o steps b i) (meet o (value o steps a i) x)) (sym (cond-false (leb i (length steps)) _ _ (lt-leb i (length steps) h))))
+      (cases-le i (length steps))
 
 module _ {V : Type 0} (o : Ops V) (steps : List ℕ) (rows : List Row) (r : ℕ) where
   by-row : (x : Row) (i : ℕ) → tree-at (trees rows) r ≡ tree-of (trees rows) x → row-value o steps rows r i ≡ unrolled o steps (row-value o steps rows) r x i

@@ -20,13 +20,15 @@ use Rattle.ltl.proofs.Mono.{monotone}
 over : (t : Tree) (x y : ℕ) → AtLeast t x y → Over t x y
 over (signal k) x y h = h .keeps k refl
 over (not a) x y h = over a y x (record { keeps = h .adds-none; adds-none = h .keeps })
-over (or a b) x y h =
-    ( over a x y (record { keeps = λ k p. h .keeps k (inl p); adds-none = λ k p. h .adds-none k (inl p) })
-    , over b x y (record { keeps = λ k p. h .keeps k (inr p); adds-none = λ k p. h .adds-none k (inr p) }))
+over (or a b) x y h = (
+  over a x y (record { keeps = λ k p. h .keeps k (inl p); adds-none = λ k p. h .adds-none k (inl p) }),
+  over b x y (record { keeps = λ k p. h .keeps k (inr p); adds-none = λ k p. h .adds-none k (inr p) }),
+)
 over (next a) x y h = over a x y (record { keeps = h .keeps; adds-none = h .adds-none })
-over (until a b) x y h =
-    ( over a x y (record { keeps = λ k p. h .keeps k (inl p); adds-none = λ k p. h .adds-none k (inl p) })
-    , over b x y (record { keeps = λ k p. h .keeps k (inr p); adds-none = λ k p. h .adds-none k (inr p) }))
+over (until a b) x y h = (
+  over a x y (record { keeps = λ k p. h .keeps k (inl p); adds-none = λ k p. h .adds-none k (inl p) }),
+  over b x y (record { keeps = λ k p. h .keeps k (inr p); adds-none = λ k p. h .adds-none k (inr p) }),
+)
 over (eventually a) x y h = over a x y (record { keeps = h .keeps; adds-none = h .adds-none })
 
 same : (t : Tree) (x : ℕ) → AtLeast t x x
@@ -37,9 +39,9 @@ everywhere : (t : Tree) (xs ys : List ℕ) → length xs ≡ length ys → ((i :
 everywhere t xs ys e h zero = same t 0
 everywhere t xs ys e h (suc i) =
     ⊎-elim
-      (λ l. h (suc i) (omega arith) l)
-      (λ l. rw (getD-past xs i 0 l, getD-past ys i 0 (omega arith)) (same t 0))
-      (cases-lt i (length xs))
+    (λ l. h (suc i) (omega arith) l)
+    (λ l. rw (getD-past xs i 0 l, getD-past ys i 0 (omega arith)) (same t 0))
+    (cases-lt i (length xs))
 
 pub order : {V : Type 0} (o : Ops V) (p : V → V → Type 0) → Laws o p → (t : Tree) (xs ys : List ℕ) → Truer t xs ys → (i : ℕ) → p (value o ys t i) (value o xs t i)
 order o p l t xs ys h i = monotone o p l t xs ys (h .size) (λ j. over t (step-at xs j) (step-at ys j) (everywhere t xs ys (h .size) (h .each) j)) i

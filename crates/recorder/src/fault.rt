@@ -34,7 +34,11 @@ impl RecordFault {
             RecordFault::ForeignSignal => 8,
             RecordFault::NoRoom => 9,
         };
-        Refusal { question, part: Part::Recording, place: 0 }
+        Refusal {
+            question,
+            part: Part::Recording,
+            place: 0,
+        }
     }
 }
 
@@ -43,7 +47,11 @@ impl OpenFault {
     pub fn refusal(self) -> Refusal
         ensures { λ r. ⌜ r ≡ open-refusal self ⌝ }
     {
-        Refusal { question: 10, part: Part::Recording, place: 0 }
+        Refusal {
+            question: 10,
+            part: Part::Recording,
+            place: 0,
+        }
     }
 }
 

@@ -40,12 +40,22 @@ impl<'a> PlainRecorder<'a> {
         ensures { λ r. ⌜ Cases r (λ p. Opened width (now (words .entry)) p) (λ e. Refused width (now (words .entry)) e) ⌝ }
     {
         if width == 0 || width > 32 {
-            return Err(NotOpened { fault: OpenFault::Width, words });
+            return Err(NotOpened {
+                fault: OpenFault::Width,
+                words,
+            });
         }
         if words.len() == 0 {
-            return Err(NotOpened { fault: OpenFault::Memory, words });
+            return Err(NotOpened {
+                fault: OpenFault::Memory,
+                words,
+            });
         }
-        Ok(PlainRecorder { words, held: 0, width })
+        Ok(PlainRecorder {
+            words,
+            held: 0,
+            width,
+        })
     }
 }
 

@@ -31,4 +31,3 @@ truth-laws = record {
   joins = λ x y z w h k. omega (arith, rank-upper x z, rank-upper y w);
   laters = λ x y h. h;
 }
-

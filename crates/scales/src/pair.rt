@@ -1,7 +1,7 @@
 //! The scale of pairs of witness counts.
 ghost use mathlib.Core.Path.{_≡_};
 ghost use Rattle.std.specs.declared.option.Option.the-variants.{Some};
-ghost use Rattle.scales.specs.Pairs.{least, most, one-more, pair-ops, truer-pair};
+ghost use Rattle.scales.specs.Pairs.{least, most, one-more, pair, pair-ops, truer-pair};
 ghost use Rattle.scales.specs.Shown.{shown-count, shown-pair};
 ghost use Rattle.scales.specs.PairLaws.{pair-laws};
 use crate::scale::Scale;
@@ -20,6 +20,15 @@ pub enum Count {
 pub struct Pair {
     pub s: Count,
     pub f: Count,
+}
+
+impl Pair {
+    /// The pair (s, f).
+    pub fn new(s: Count, f: Count) -> Pair
+        ensures { λ r. ⌜ r ≡ pair s f ⌝ }
+    {
+        Pair { s, f }
+    }
 }
 
 impl Count {
@@ -68,31 +77,31 @@ pub impl Scale for Pair as PairScale {
     ghost laws = { pair-laws };
 
     fn yes() -> Pair {
-        Pair { s: Count::Number(0), f: Count::Impossible }
+        Self::new(Count::Number(0), Count::Impossible)
     }
 
     fn no() -> Pair {
-        Pair { s: Count::Impossible, f: Count::Number(0) }
+        Self::new(Count::Impossible, Count::Number(0))
     }
 
     fn past() -> Pair {
-        Pair { s: Count::Number(0), f: Count::Number(0) }
+        Self::new(Count::Number(0), Count::Number(0))
     }
 
     fn open() -> Pair {
-        Pair { s: Count::Impossible, f: Count::Infinite }
+        Self::new(Count::Impossible, Count::Infinite)
     }
 
     fn turn(self) -> Pair {
-        Pair { s: self.f, f: self.s }
+        Self::new(self.f, self.s)
     }
 
     fn join(self, other: Pair) -> Pair {
-        Pair { s: self.s.smaller(other.s), f: self.f.larger(other.f) }
+        Self::new(self.s.smaller(other.s), self.f.larger(other.f))
     }
 
     fn later(self) -> Pair {
-        Pair { s: self.s.more(), f: self.f.more() }
+        Self::new(self.s.more(), self.f.more())
     }
 }
 

@@ -44,7 +44,8 @@ pub trait Scale: Copy {
 
     /// The value of the conjunction: the turn of the join of the turns.
     fn meet(self, other: Self) -> Self
-        where Self: Sized
+    where
+        Self: Sized,
         ensures { λ r. ⌜ r ≡ meet-of ops self other ⌝ }
     {
         self.turn().join(other.turn()).turn()

@@ -99,6 +99,6 @@ parts-next sep p s g n eg en h =
     let here = parts-here sep (p + g) (drop g s) some z in
     let past : parts sep p s ≡ parts sep (p + g) (drop g s) = rw eg (parts-gap sep p s) in
     let joined : parts sep (p + g) (drop g s) ≡ part (take n (drop g s)) (p + g) ∷ parts sep (p + (g + n)) (drop (g + n) s) =
-        subst (λ k. parts sep (p + g) (drop g s) ≡ part (take k (drop g s)) (p + g) ∷ parts sep (p + (g + k)) (drop (g + k) s)) (sym en)
-        (here ∙ ap (λ l. part (take (run sep (drop g s)) (drop g s)) (p + g) ∷ l) (ap (λ l. parts sep (p + g + run sep (drop g s)) l) (drop-drop _ g s) ∙ ap (λ k. parts sep k (drop (g + run sep (drop g s)) s)) (omega arith))) in
+    subst (λ k. parts sep (p + g) (drop g s) ≡ part (take k (drop g s)) (p + g) ∷ parts sep (p + (g + k)) (drop (g + k) s)) (sym en)
+    (here ∙ ap (λ l. part (take (run sep (drop g s)) (drop g s)) (p + g) ∷ l) (ap (λ l. parts sep (p + g + run sep (drop g s)) l) (drop-drop _ g s) ∙ ap (λ k. parts sep k (drop (g + run sep (drop g s)) s)) (omega arith))) in
     (rw en (run-pos sep (drop g s) some z), past ∙ joined)

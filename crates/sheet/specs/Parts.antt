@@ -29,7 +29,7 @@ unfoldable pub partsIn : ℕ → Bool → ℕ → List ℕ → List Part
 partsIn sep inside p [] = []
 partsIn sep inside p (b ∷ bs) =
     cond (eqb b sep) (partsIn sep false (suc p) bs)
-      (cond inside (partsIn sep true (suc p) bs) (part (take (run sep (b ∷ bs)) (b ∷ bs)) p ∷ partsIn sep true (suc p) bs))
+    (cond inside (partsIn sep true (suc p) bs) (part (take (run sep (b ∷ bs)) (b ∷ bs)) p ∷ partsIn sep true (suc p) bs))
 
 abbrev pub parts : ℕ → ℕ → List ℕ → List Part
 parts sep p bs = partsIn sep false p bs

@@ -57,7 +57,10 @@ fn word_from<'a>(s: &'a [u8], sep: u8, from: usize) -> Next<'a>
     let rest = &s[from..];
     let len = run_len(rest, sep);
     let text = &rest[0..len];
-    Next { word: Word { text, at: from }, used: from + len }
+    Next {
+        word: Word { text, at: from },
+        used: from + len,
+    }
 }
 
 /// The first word of `s`, or nothing where `s` holds only separators.

@@ -56,19 +56,20 @@ one-word : (s v : ℕ) (w : Part) (ws : List Part) (k : ℕ) → ((s : ℕ) → 
 one-word s v w ws k ih None q e = absurd (true≢false (cc))
 one-word s v w ws k ih (Some j) q e =
     let r = ih (bitOr s (2 ^ j)) e in
-    let b : has (bitOr s (2 ^ j)) k ≡ (has s k || eqb k j) = has-or s (2 ^ j) k ∙ ap (λ x. has s k || x) (has-one j k) in
-    ( (λ h. ⊎-elim
-        (λ (x : has (bitOr s (2 ^ j)) k ≡ true). ⊎-elim
+    let b : has (bitOr s (2 ^ j)) k ≡ (has s k || eqb k j) = has-or s (2 ^ j) k ∙ ap (λ x. has s k || x) (has-one j k) in (
+      (λ h. ⊎-elim
+          (λ (x : has (bitOr s (2 ^ j)) k ≡ true). ⊎-elim
           (λ (y : has s k ≡ true). inl y)
           (λ (y : eqb k j ≡ true). inr (inl (q ∙ ap Some (sym (eqb-true k j y)))))
           (or-cases (has s k) (eqb k j) (sym b ∙ x)))
-        (λ (n : Names k ws). inr (inr n))
-        (r .0 h))
-    , ⊎-elim
-        (λ (x : has s k ≡ true). r .1 (inl (b ∙ or-left (has s k) (eqb k j) x)))
-        (⊎-elim
+          (λ (n : Names k ws). inr (inr n))
+          (r .0 h)),
+      ⊎-elim
+          (λ (x : has s k ≡ true). r .1 (inl (b ∙ or-left (has s k) (eqb k j) x)))
+          (⊎-elim
           (λ (y : signal-named (w .text) ≡ Some k). let z : k ≡ j = cc in r .1 (inl (b ∙ or-right (has s k) (eqb k j) (eq-eqb k j z))))
-          (λ (n : Names k ws). r .1 (inr n))))
+          (λ (n : Names k ws). r .1 (inr n))),
+    )
 
 members : (s v : ℕ) (ws : List Part) (k : ℕ) → named s ws ≡ Ok v → Has s v ws k
 members s v [] k e = let z : s ≡ v = cc in ((λ h. inl (rw z h)), ⊎-elim (λ h. rw (← z) h) (λ n. absurd n))

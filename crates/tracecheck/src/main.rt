@@ -6,13 +6,9 @@ use bench::bench;
 use lines::Line;
 use lines::read_line;
 use ltl::formula::Formula;
-use scales::pair::Count;
-use scales::pair::Pair;
-use scales::pair::PairDisplay;
+use ltl::refusal::RefusalDisplay;
 use ltl::row::RowDisplay;
 use ltl::step::StepDisplay;
-use scales::truth::Truth;
-use scales::truth::TruthDisplay;
 use recorder::fault::OpenFaultDebug;
 use recorder::fault::OpenFaultDisplay;
 use recorder::fault::OpenFaultError;
@@ -22,6 +18,11 @@ use recorder::plain::PlainRecorder;
 use recorder::plain::PlainRecording;
 use recorder::recording::Recorder;
 use recorder::recording::Recording;
+use scales::pair::Count;
+use scales::pair::Pair;
+use scales::pair::PairDisplay;
+use scales::truth::Truth;
+use scales::truth::TruthDisplay;
 use std::alloc::Global;
 use std::error::AnyError;
 use std::fmt::Write;
@@ -33,16 +34,23 @@ use values::fault::GridTooSmallError;
 use values::grid::Grid;
 use values::grid::columns::pairs;
 use values::grid::columns::truths;
-use ltl::refusal::RefusalDisplay;
 
 /// The most steps that the program keeps.
 const STEPS: usize = 4096;
 
 /// Records the step of one line, or says what is wrong with the line.
-fn record_line<R: Recorder>(recorder: &mut R, heap: Global, line: &str, number: usize) -> Result<(), AnyError> {
+fn record_line<R: Recorder>(
+    recorder: &mut R,
+    heap: Global,
+    line: &str,
+    number: usize,
+) -> Result<(), AnyError> {
     match read_line(line.as_bytes()) {
         Line::Blank => Ok(()),
-        Line::Strange(at) => Err(format!(heap, "line {number}: the word at {at} is not r, g, or - alone")?.into()),
+        Line::Strange(at) => Err(format!(
+            heap,
+            "line {number}: the word at {at} is not r, g, or - alone"
+        )?.into()),
         Line::Signals(step) => match recorder.record(step) {
             Ok(_) => Ok(()),
             Err(fault) => {
@@ -68,9 +76,20 @@ fn record_lines<R: Recorder>(rt: &LibcRuntime, recorder: &mut R) -> Result<(), A
 }
 
 /// Writes one line for each row at position i.
-fn rows_at(text: &mut String, heap: Global, formula: &Formula, values: &mut Grid<Truth>, counts: &mut Grid<Pair>, i: usize) -> Result<(), AnyError> {
+fn rows_at(
+    text: &mut String,
+    heap: Global,
+    formula: &Formula,
+    values: &mut Grid<Truth>,
+    counts: &mut Grid<Pair>,
+    i: usize,
+) -> Result<(), AnyError> {
     for r in 0..formula.row_count() {
-        let (Some(row), Some(value), Some(pair)) = (formula.row(r), values.get(r, i), counts.get(r, i)) else {
+        let (Some(row), Some(value), Some(pair)) = (
+            formula.row(r),
+            values.get(r, i),
+            counts.get(r, i),
+        ) else {
             return Err("a row has no cell".into());
         };
         let row = format!(heap, "{row}")?;
@@ -81,20 +100,28 @@ fn rows_at(text: &mut String, heap: Global, formula: &Formula, values: &mut Grid
 }
 
 /// The whole report on a formula over a recording.
-fn judged<R: Recording>(heap: Global, formula: &Formula, recording: &R) -> Result<String, AnyError> {
+fn judged<R: Recording>(
+    heap: Global,
+    formula: &Formula,
+    recording: &R,
+) -> Result<String, AnyError> {
     let rows = formula.row_count();
     let n = recording.len();
     let positions = n.saturating_add(1);
     let cells = rows.saturating_mul(positions);
     let mut values = vec![in heap; Truth::False; cells]?;
-    let mut counts = vec![in heap; Pair { s: Count::Infinite, f: Count::Infinite }; cells]?;
+    let blank = Pair::new(Count::Infinite, Count::Infinite);
+    let mut counts = vec![in heap; blank; cells]?;
     truths(formula, recording, values.as_mut_slice())?;
     pairs(formula, recording, counts.as_mut_slice())?;
     let mut values = Grid::new(values.as_mut_slice(), rows, positions);
     let mut counts = Grid::new(counts.as_mut_slice(), rows, positions);
     let mut text = String::new(heap);
     let watch = formula.watch();
-    writeln!(text, "always implies r eventually g: signal 0 is r, signal 1 is g, row {watch} is watched")?;
+    writeln!(
+        text,
+        "always implies r eventually g: signal 0 is r, signal 1 is g, row {watch} is watched"
+    )?;
     for i in 1..positions.saturating_add(1) {
         if i <= n {
             let step = recording.step(i);

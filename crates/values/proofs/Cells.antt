@@ -32,17 +32,17 @@ module _ {V : Type 0} (o : Ops V) (steps : List ℕ) (f : Formula) (cells : List
   pub look-next : (a j : ℕ) (v : V) → a < r → (i ≤ length steps → j ≡ i + 1) → (length steps < i → j ≡ i) → v ≡ getD cells (place p a j) v → v ≡ meaning o steps f a (i + 1)
   look-next a j v h e e′ q =
       ⊎-elim
-        (λ l. let z : j ≡ i + 1 = e (omega arith) in
-              let b : Inside (length cells) rows p a (i + 1) = record { wide = inside .wide; row = omega arith; first = omega arith; last = omega arith } in
-              seen cells rows (o .no) b (rw z at q) ∙ known .after a (i + 1) (omega arith) (omega arith) (omega arith))
-        (λ l. let z : j ≡ i = e′ (omega arith) in
-              look a v h (rw z at q) ∙ after-same o steps (tree f a) i (i + 1) (omega arith) (omega arith))
-        (cases-lt i (length steps + 1))
+      (λ l. let z : j ≡ i + 1 = e (omega arith) in
+      let b : Inside (length cells) rows p a (i + 1) = record { wide = inside .wide; row = omega arith; first = omega arith; last = omega arith } in
+      seen cells rows (o .no) b (rw z at q) ∙ known .after a (i + 1) (omega arith) (omega arith) (omega arith))
+      (λ l. let z : j ≡ i = e′ (omega arith) in
+      look a v h (rw z at q) ∙ after-same o steps (tree f a) i (i + 1) (omega arith) (omega arith))
+      (cases-lt i (length steps + 1))
 
   -- what comes after this position for the row itself
   pub look-ahead : cond (leb i (length steps)) (o .later (getD cells (place p r (i + 1)) (o .no))) (o .«open») ≡ rest o (length steps) (meaning o steps f r) i
   look-ahead =
       ⊎-elim
-        (λ l. let t = le-leb i (length steps) l in rw t (ap (o .later) (known .after r (i + 1) (omega arith) (omega arith) (omega arith))))
-        (λ l. let t = lt-leb i (length steps) l in rw t)
-        (cases-le i (length steps))
+      (λ l. let t = le-leb i (length steps) l in rw t (ap (o .later) (known .after r (i + 1) (omega arith) (omega arith) (omega arith))))
+      (λ l. let t = lt-leb i (length steps) l in rw t)
+      (cases-le i (length steps))

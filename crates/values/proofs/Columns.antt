@@ -38,8 +38,8 @@ module _ {V : Type 0} (before after : Grid V) (r i : ℕ) (v : V) (s : Stored be
     memory = s .memory;
     size = rw (s .cells-is) (length-set _ _ _);
     past =
-      let t : Inside (before .rows * before .positions) (before .rows) (before .positions) r i = record { wide = omega arith; row = h .row; first = h .first; last = h .last } in
-      rw (s .cells-is) (drop-set-lt (before .rows * before .positions) (now (before .cells)) (place (before .positions) r i) v (omega (arith, inside _ _ _ _ _ t, h .first)));
+        let t : Inside (before .rows * before .positions) (before .rows) (before .positions) r i = record { wide = omega arith; row = h .row; first = h .first; last = h .last } in
+        rw (s .cells-is) (drop-set-lt (before .rows * before .positions) (now (before .cells)) (place (before .positions) r i) v (omega (arith, inside _ _ _ _ _ t, h .first)));
   }
 
   pub held-stored : (o : Ops V) (steps : List ℕ) (f : Formula) → Held o steps f before i r → v ≡ meaning o steps f r i → Held o steps f after i (r + 1)

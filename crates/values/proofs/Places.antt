@@ -42,18 +42,18 @@ module _ {V : Type 0} (d : V) (w : ℕ → ℕ → V) (rows p : ℕ) (cells : Li
   pub known-more : (r : ℕ) (v : V) → Known d w rows p cells i r → Inside (length cells) rows p r i → v ≡ w r i → Known d w rows p (set cells (place p r i) v) i (r + 1)
   known-more r v known h e = record {
     after = λ a j b l m.
-      getD-set-other cells (place p r i) (place p a j) v d (columns-apart p a j r i (omega arith) m (h .first) (h .last) (omega arith)) ∙ known .after a j b l m;
+        getD-set-other cells (place p r i) (place p a j) v d (columns-apart p a j r i (omega arith) m (h .first) (h .last) (omega arith)) ∙ known .after a j b l m;
     here = below-more (λ a. getD (set cells (place p r i) v) (place p a i) d ≡ w a i) r
-      (λ a b. getD-set-other cells (place p r i) (place p a i) v d (rows-apart p a r i (h .first) (h .last) (omega arith)) ∙ known .here a b)
-      (getD-set-same cells (place p r i) v d (omega (arith, inside (length cells) rows p r i h)) ∙ e);
+        (λ a b. getD-set-other cells (place p r i) (place p a i) v d (rows-apart p a r i (h .first) (h .last) (omega arith)) ∙ known .here a b)
+        (getD-set-same cells (place p r i) v d (omega (arith, inside (length cells) rows p r i h)) ∙ e);
   }
 
   -- one column more
   pub known-next : (k : ℕ) → i ≡ k + 1 → Known d w rows p cells i rows → Known d w rows p cells k 0
   known-next k e known = record {
     after = λ a j b l m. ⊎-elim
-      (λ q. known .after a j b q m)
-      (λ q. let z : j ≡ i = omega arith in rw z (known .here a b))
-      (cases-lt i j);
+        (λ q. known .after a j b q m)
+        (λ q. let z : j ≡ i = omega arith in rw z (known .here a b))
+        (cases-lt i j);
     here = λ a b. absurd (omega arith);
   }

@@ -16,7 +16,11 @@ impl GridTooSmall {
     pub fn refusal(self) -> Refusal
         ensures { λ r. ⌜ r ≡ grid-refusal ⌝ }
     {
-        Refusal { question: 17, part: Part::Watch, place: 0 }
+        Refusal {
+            question: 17,
+            part: Part::Watch,
+            place: 0,
+        }
     }
 }
 

@@ -35,7 +35,11 @@ impl<'a, T: Copy> Grid<'a, T> {
         ensures rows { λ g. ⌜ g .rows ≡ rows ⌝ }
         ensures positions { λ g. ⌜ g .positions ≡ positions ⌝ }
     {
-        Grid { cells, rows, positions }
+        Grid {
+            cells,
+            rows,
+            positions,
+        }
     }
 
     /// Whether row r at position i has a cell.

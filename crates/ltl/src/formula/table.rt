@@ -56,7 +56,12 @@ fn assembled(width: u8, rows: &[Row], watch: usize) -> Formula
     requires { ⌜ WellFormed (table-from width (now rows) watch) ⌝ }
     ensures { λ f. ⌜ table f ≡ table-from width (now (rows .entry)) watch ⌝ }
 {
-    Formula { width, rows: filled(rows), len: rows.len(), watch }
+    Formula {
+        width,
+        rows: filled(rows),
+        len: rows.len(),
+        watch,
+    }
 }
 
 /// Row r of a formula that has it.

@@ -64,7 +64,9 @@ fn added(step: Step, signal: u8) -> Step
     ensures set { λ s. ⌜ set-of s ≡ bitOr (set-of step) (2 ^ signal) ⌝ }
     ensures members { λ s. ⌜ ((k : ℕ) → has (set-of s) k ≡ (has (set-of step) k || eqb k signal)) ⌝ }
 {
-    Step { bits: step.bits | 1u64 << signal }
+    Step {
+        bits: step.bits | 1u64 << signal,
+    }
 }
 
 /// Whether no bit from the width on is 1.

@@ -18,14 +18,14 @@ ghost use Rattle.values.specs.Tables.{meaning, Held, Frame};
 use super::Grid;
 use crate::fault::GridTooSmall;
 use ltl::formula::Formula;
+use ltl::row::Row;
+use ltl::step::Step;
+use recorder::recording::Recording;
 use scales::pair::Pair;
 use scales::pair::PairScale;
-use ltl::row::Row;
 use scales::scale::Scale;
-use ltl::step::Step;
 use scales::truth::Truth;
 use scales::truth::TruthScale;
-use recorder::recording::Recording;
 
 /// Row r of the formula.
 fn row_at(formula: &Formula, r: usize) -> Row
@@ -58,11 +58,22 @@ fn ahead<S: Scale>(grid: &mut Grid<S>, n: usize, r: usize, i: usize) -> S
     ensures value { λ v. ⌜ v ≡ cond (leb i n) (ops .later (getD (now (now (grid .entry) .cells)) (place (now (grid .entry) .positions) r (i + 1)) (ops .no))) (ops .«open») ⌝ }
     ensures kept { λ _. ⌜ now (grid .exit) ≡ now (grid .entry) ⌝ }
 {
-    if i <= n { grid.at(r, i + 1).later() } else { S::open() }
+    if i <= n {
+        grid.at(r, i + 1).later()
+    } else {
+        S::open()
+    }
 }
 
 /// The value of row r at position i, where the rows below it there, and all rows after there, stand in the grid.
-fn cell<S: Scale, R: Recording>(formula: &Formula, recording: &R, step: Step, grid: &mut Grid<S>, r: usize, i: usize) -> S
+fn cell<S: Scale, R: Recording>(
+    formula: &Formula,
+    recording: &R,
+    step: Step,
+    grid: &mut Grid<S>,
+    r: usize,
+    i: usize,
+) -> S
     requires ready { ⌜ Ready (row-count (now formula)) (length (steps (now recording))) (length (now (now grid .cells))) (now grid .rows) (now grid .positions) ⌝ }
     requires inside { ⌜ Inside (length (now (now grid .cells))) (now grid .rows) (now grid .positions) r i ⌝ }
     requires known { ⌜ Held ops (steps (now recording)) (now formula) (now grid) i r ⌝ }
@@ -125,7 +136,11 @@ fn fill<S: Scale, R: Recording>(formula: &Formula, recording: &R, grid: &mut Gri
 
 /// Fills the cells with the value of every row at every position from 1 to n + 1, whatever they held.
 /// Cells past these stay, and a grid that is too small is left as it is.
-pub fn evaluate<S: Scale, R: Recording>(formula: &Formula, recording: &R, cells: &mut [S]) -> Result<(), GridTooSmall>
+pub fn evaluate<S: Scale, R: Recording>(
+    formula: &Formula,
+    recording: &R,
+    cells: &mut [S],
+) -> Result<(), GridTooSmall>
     ensures answer { λ v. ⌜ v ≡ evaluated (row-count (now (formula .entry))) (length (steps (now (recording .entry)))) (length (now (cells .entry))) ⌝ }
     ensures cells { λ v. ⌜ Left ops atleast (width (now (recording .entry))) (steps (now (recording .entry))) (now (formula .entry)) (now (cells .entry)) (now (cells .exit)) v ⌝ }
 {
@@ -134,13 +149,21 @@ pub fn evaluate<S: Scale, R: Recording>(formula: &Formula, recording: &R, cells:
     if cells.len() < rows * positions {
         return Err(GridTooSmall);
     }
-    let mut grid = Grid { cells, rows, positions };
+    let mut grid = Grid {
+        cells,
+        rows,
+        positions,
+    };
     fill(formula, recording, &mut grid);
     Ok(())
 }
 
 /// The same at three-valued values.
-pub fn truths<R: Recording>(formula: &Formula, recording: &R, cells: &mut [Truth]) -> Result<(), GridTooSmall>
+pub fn truths<R: Recording>(
+    formula: &Formula,
+    recording: &R,
+    cells: &mut [Truth],
+) -> Result<(), GridTooSmall>
     ensures answer { λ v. ⌜ v ≡ evaluated (row-count (now (formula .entry))) (length (steps (now (recording .entry)))) (length (now (cells .entry))) ⌝ }
     ensures cells { λ v. ⌜ Left truth-ops truer (width (now (recording .entry))) (steps (now (recording .entry))) (now (formula .entry)) (now (cells .entry)) (now (cells .exit)) v ⌝ }
 {
@@ -148,7 +171,11 @@ pub fn truths<R: Recording>(formula: &Formula, recording: &R, cells: &mut [Truth
 }
 
 /// The same at pairs of witness counts.
-pub fn pairs<R: Recording>(formula: &Formula, recording: &R, cells: &mut [Pair]) -> Result<(), GridTooSmall>
+pub fn pairs<R: Recording>(
+    formula: &Formula,
+    recording: &R,
+    cells: &mut [Pair],
+) -> Result<(), GridTooSmall>
     ensures answer { λ v. ⌜ v ≡ evaluated (row-count (now (formula .entry))) (length (steps (now (recording .entry)))) (length (now (cells .entry))) ⌝ }
     ensures cells { λ v. ⌜ Left pair-ops truer-pair (width (now (recording .entry))) (steps (now (recording .entry))) (now (formula .entry)) (now (cells .entry)) (now (cells .exit)) v ⌝ }
 {

@@ -27,9 +27,10 @@ loop-next-again c =
     let w = simp take-rest at (c .in-Some .ensures tt) in
     let k = c .in-Some-with-named .ensures tt in
     let next = w .3 f in
-    let e = named-more set (k .0) (x .word .text .now) (f + x .word .at) (parts 32 (f + x .used) (drop (x .used) (drop f s))) (k .1) in
-    ( omega (arith, w .1, length-drop f s)
-    , rw (k .2, ← drop-drop (x .used) f s) (sym (ap (named set) next ∙ e) ∙ c .loop-next .inv .1))
+    let e = named-more set (k .0) (x .word .text .now) (f + x .word .at) (parts 32 (f + x .used) (drop (x .used) (drop f s))) (k .1) in (
+      omega (arith, w .1, length-drop f s),
+      rw (k .2, ← drop-drop (x .used) f s) (sym (ap (named set) next ∙ e) ∙ c .loop-next .inv .1),
+    )
 
 pub returns : need.returns
 returns c =

@@ -12,9 +12,24 @@ pub ghost-result : need.ghost-result
 ghost-result c =
     let rows = c .args .rows .now in
     let w = c .args .width in
-    let h = c .pre in
-    (c .filled .ensures .sized, (h .some-signal, (h .few-signals, (h .some-row, (h .few-rows,
-      ((λ r l.
-        let e = sym (getD-take (length rows) (c .filled .result) r (Signal 0) l) ∙ ap (λ x. getD x r (Signal 0)) (c .filled .ensures .begins) in
-        rw e (fits-test w r (getD rows r (Signal 0)) (h .ordered r l)))
-      , (h .watched, tt)))))))
+    let h = c .pre in (
+      c .filled .ensures .sized,
+      (
+        h .some-signal,
+        (
+          h .few-signals,
+          (
+            h .some-row,
+            (
+              h .few-rows,
+              (
+                (λ r l.
+                    let e = sym (getD-take (length rows) (c .filled .result) r (Signal 0) l) ∙ ap (λ x. getD x r (Signal 0)) (c .filled .ensures .begins) in
+                    rw e (fits-test w r (getD rows r (Signal 0)) (h .ordered r l))),
+                (h .watched, tt),
+              ),
+            ),
+          ),
+        ),
+      ),
+    )

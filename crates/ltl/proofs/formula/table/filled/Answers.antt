@@ -9,9 +9,10 @@ use Rattle.ltl.proofs.formula.table.filled.Needs as need
 pub loop-r-again : need.loop-r-again
 loop-r-again c =
     let r = c .loop-r .r in
-    let x = getD (c .args .rows .now) r (Signal 0) in
-    ( take-more-set (c .loop-r .table) r x (omega arith) ∙ ap (λ l. l ++ x ∷ []) (c .loop-r .inv .0) ∙ sym (take-more (c .args .rows .now) r (Signal 0) (omega arith))
-    , length-set (c .loop-r .table) r x ∙ c .loop-r .inv .1)
+    let x = getD (c .args .rows .now) r (Signal 0) in (
+      take-more-set (c .loop-r .table) r x (omega arith) ∙ ap (λ l. l ++ x ∷ []) (c .loop-r .inv .0) ∙ sym (take-more (c .args .rows .now) r (Signal 0) (omega arith)),
+      length-set (c .loop-r .table) r x ∙ c .loop-r .inv .1,
+    )
 
 pub returns : need.returns
 returns c =

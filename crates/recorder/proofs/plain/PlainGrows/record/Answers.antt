@@ -15,7 +15,10 @@ returns-then-not-is-below c =
     let h : ltb s (2 ^ plain-width p) ≡ false = sym (c .if-not-is-below .ensures tt .value ∙ ap (λ w. ltb s (2 ^ w)) (c .width .ensures)) in
     record {
       answer = foreign (plain-width p) n s (plain-room p s) h;
-      steps = refl; width = refl; capacity = refl; refused = refl;
+      steps = refl;
+      width = refl;
+      capacity = refl;
+      refused = refl;
       law = plain-roomy (plain-width p) (plain-capacity p) n s;
       words = refl;
     }

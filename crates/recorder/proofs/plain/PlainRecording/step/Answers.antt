@@ -10,5 +10,6 @@ pub returns-then-at-eq0 : need.returns-then-at-eq0
 returns-then-at-eq0 c =
     let xs = plain-steps (c .args .self .now) in
     c .empty .ensures ∙ elim (c .then-at-eq0 .came) [
-        then-at-eq0·by·then-at-eq0 w ↦ ap (step-at xs) (sym (w .if-at-eq0 .taken))
-      | then-at-eq0·by·else-at-eq0·then-at-held w ↦ past xs (c .args .at) (omega (arith, w .held .ensures .value, w .if-at-held .taken)) ]
+      | then-at-eq0·by·then-at-eq0 w ↦ ap (step-at xs) (sym (w .if-at-eq0 .taken))
+      | then-at-eq0·by·else-at-eq0·then-at-held w ↦ past xs (c .args .at) (omega (arith, w .held .ensures .value, w .if-at-held .taken))
+    ]

@@ -43,9 +43,9 @@ returns-after-i-n g c =
     let row = c .in-Next .ensures tt in
     let n = c .len-n .ensures in
     let x = look-next o _ (c .args .formula .now) _ _ _ _ _ (c .pre .ready) (c .pre .inside) (c .pre .known) _ (c .if-i-n .j) _ (row .fits)
-          (λ h. elim (c .if-i-n .came) [ then-i-n w ↦ w .j-is | else-i-n w ↦ omega (arith, w .if-i-n .left) ])
-          (λ h. elim (c .if-i-n .came) [ then-i-n w ↦ omega (arith, w .if-i-n .taken) | else-i-n w ↦ w .j-is ])
-          (c .at-in-Next .ensures .value) in
+    (λ h. elim (c .if-i-n .came) [ then-i-n w ↦ w .j-is | else-i-n w ↦ omega (arith, w .if-i-n .left) ])
+    (λ h. elim (c .if-i-n .came) [ then-i-n w ↦ omega (arith, w .if-i-n .taken) | else-i-n w ↦ w .j-is ])
+    (c .at-in-Next .ensures .value) in
     record {
       value = c .later .ensures ∙ ap (o .later) x ∙ sym (row-law o _ _ _ (c .args .formula .now .width) _ (c .args .i) (row .within) (row .value) (row .fits));
       kept = c .at-in-Next .ensures .kept;

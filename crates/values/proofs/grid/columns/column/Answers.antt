@@ -15,11 +15,11 @@ loop-r-again g c =
     let k = c .cell-v .ensures .kept in
     let f = inv .1 in
     let s : Stored grid (c .put .last .self) (c .loop-r .r) (c .args .i) (c .cell-v .result) = record {
-          cells-is = rw k at (c .put .ensures .cells);
-          rows-is = rw k at (c .put .ensures .rows);
-          positions-is = rw k at (c .put .ensures .positions);
-          memory = rw k at (c .put .ensures .same);
-        } in
+      cells-is = rw k at (c .put .ensures .cells);
+      rows-is = rw k at (c .put .ensures .rows);
+      positions-is = rw k at (c .put .ensures .positions);
+      memory = rw k at (c .put .ensures .same);
+    } in
     let h : Inside (length (now (grid .cells))) (grid .rows) (grid .positions) (c .loop-r .r) (c .args .i) =
-          record { wide = rw (f .rows-is, f .positions-is, f .size) (c .pre .ready .wide); row = omega arith; first = omega arith; last = omega arith } in
+    record { wide = rw (f .rows-is, f .positions-is, f .size) (c .pre .ready .wide); row = omega arith; first = omega arith; last = omega arith } in
     (held-stored _ _ _ _ _ s h o _ (c .args .formula .now) (inv .0) (c .cell-v .ensures .value), frame-trans _ _ _ f (frame-stored _ _ _ _ _ s h))

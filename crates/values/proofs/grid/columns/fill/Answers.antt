@@ -36,7 +36,7 @@ returns g c =
     let f = c .loop-i .inv .1 in
     let z : c .loop-i .i - 1 ≡ 0 = omega arith in
     let all = λ (r i : ℕ) (b : r < row-count formula) (l : 1 ≤ i) (m : i ≤ length steps + 1).
-          held-all o _ formula (c .loop-i .grid) (ready-in _ _ _ _ f (c .pre)) r i (rw z at (c .loop-i .inv .0)) b l m in
+    held-all o _ formula (c .loop-i .grid) (ready-in _ _ _ _ f (c .pre)) r i (rw z at (c .loop-i .inv .0)) b l m in
     record {
       cells = record {
         cells = all;

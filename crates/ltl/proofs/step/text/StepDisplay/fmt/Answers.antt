@@ -13,4 +13,4 @@ returns g c = λ plain ok.
     let took = g .W·Write .took in
     let signals = commas (signals-from 64 0 (c .args .self .now .bits)) in
     put-more took (c .args .f .now) (123 ∷ []) (c .write-str .last .self) (signals ++ (125 ∷ [])) (c .write-str-2 .last .self) a
-      (put-more took (c .write-str .last .self) signals (c .show-signals .last .f) (125 ∷ []) (c .write-str-2 .last .self) b d)
+    (put-more took (c .write-str .last .self) signals (c .show-signals .last .f) (125 ∷ []) (c .write-str-2 .last .self) b d)
