@@ -2,7 +2,7 @@
 use Prim.Native.Nat.{ℕ}
 use mathlib.Core.List.{List}
 use Rattle.ltl.specs.Cuts.{Decide, Counted, Agrees}
-use Rattle.ltl.specs.Endless.{Sound, OneSided, BothWays}
+use Rattle.ltl.specs.Endless.{OneSided, BothWays}
 use Rattle.scales.specs.Pairs.{pair-ops, Shape}
 use Rattle.scales.specs.Scales.{Ops}
 use Rattle.ltl.specs.Trees.{Tree}
@@ -10,11 +10,9 @@ use Rattle.ltl.specs.Truer.{Truer}
 use Rattle.ltl.specs.Values.{value}
 use Rattle.scales.specs.declared.truth.Truth.the-variants.{Undecided}
 
--- a three-valued value: decided true it holds on every continuation, decided false on none,
--- and undecided it goes both ways where no signal is reached upright and turned
-pub record TruthTold (width : ℕ) (steps : List ℕ) (t : Tree) (i : ℕ) : Type 0 where
-  pub decided : Sound steps t i
-  pub undecided : OneSided t → Decide steps t i Undecided → BothWays width steps t i
+-- an undecided formula goes both ways where no signal is reached upright and turned
+abbrev pub OpenTold : ℕ → List ℕ → Tree → ℕ → Type 0
+OpenTold width steps t i = OneSided t → Decide steps t i Undecided → BothWays width steps t i
 
 -- a pair: its count tells the first cut that decides, it is told where the steps decide, and it is one of six kinds
 pub record PairTold (steps : List ℕ) (t : Tree) (i : ℕ) : Type 0 where

@@ -10,7 +10,8 @@ use Rattle.std.specs.declared.result.Result.the-variants.{Ok, Err}
 use Rattle.scales.specs.Scales.{Ops}
 use Rattle.ltl.specs.Examples.{WorkedExamples}
 use Rattle.ltl.specs.Formulas.{row-count, width-of, tree}
-use Rattle.ltl.specs.Promises.{TruthTold, PairTold, OrderTold}
+use Rattle.ltl.specs.Endless.{Sound}
+use Rattle.ltl.specs.Promises.{OpenTold, PairTold, OrderTold}
 use Rattle.ltl.specs.declared.formula.Formula.{Formula}
 use Rattle.values.specs.Grids.{place}
 use Rattle.values.specs.Tables.{meaning}
@@ -28,7 +29,8 @@ pub record Filled {V : Type 0} (o : Ops V) (p : V → V → Type 0) (width : ℕ
   pub size : length after ≡ length before
   pub past : drop (row-count f * (length steps + 1)) after ≡ drop (row-count f * (length steps + 1)) before
   pub order : (r i : ℕ) → OrderTold o p steps (tree f r) i
-  pub decisions : width-of f ≡ width → (r i : ℕ) → 1 ≤ i → TruthTold width steps (tree f r) i
+  pub decided : (r i : ℕ) → 1 ≤ i → Sound steps (tree f r) i
+  pub undecided : width-of f ≡ width → (r i : ℕ) → 1 ≤ i → OpenTold width steps (tree f r) i
   pub counts : (r i : ℕ) → PairTold steps (tree f r) i
   pub examples : WorkedExamples
 

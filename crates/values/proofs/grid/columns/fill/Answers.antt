@@ -5,7 +5,8 @@ use Prim.Native.Nat.{ℕ, _+_, _-_, _<_, _≤_}
 use lib.ListN.{length}
 use Rattle.ltl.specs.Formulas.{row-count, tree}
 use Rattle.ltl.proofs.Examples.{worked}
-use Rattle.ltl.proofs.Promises.{order-told, truth-told, pair-told}
+use Rattle.ltl.proofs.Promises.{order-told, open-told, pair-told}
+use Rattle.ltl.proofs.Sound.{soundness}
 use Rattle.ltl.proofs.Truer.{stays}
 use Rattle.values.proofs.Columns.{frame-same, frame-trans, ready-in, held-none, held-next, held-all}
 use Rattle.values.proofs.grid.columns.fill.Needs as need
@@ -44,7 +45,8 @@ returns g c =
         size = f .size;
         past = rw (c .pre .rows-is, c .pre .positions-is) at (f .past);
         order = λ r i. order-told o (g .S·Scale .atleast) (g .S·Scale .laws) steps (tree formula r) i;
-        decisions = λ same r i h. rw (← same) (truth-told steps formula r i (λ j. rw same (lawful .low j)) h);
+        decided = λ r i h. soundness steps (tree formula r) i h;
+        undecided = λ same r i h. rw (← same) (open-told steps formula r i (λ j. rw same (lawful .low j)) h);
         counts = λ r i. pair-told steps (lawful .few-steps) (tree formula r) i;
         examples = worked;
       };
