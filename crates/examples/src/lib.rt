@@ -1,4 +1,6 @@
 //! The worked examples and the refusals of the documentation, as tests over the public calls.
+#![tactic(auto)]
+
 #[cfg(test)]
 mod sheets;
 

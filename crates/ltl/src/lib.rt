@@ -1,4 +1,6 @@
 //! LTL formulas and steps, and the definitions of values that all contracts cite.
+#![tactic(auto)]
+
 pub mod formula;
 pub mod refusal;
 pub mod row;

@@ -1,4 +1,6 @@
 //! Reads each line of standard input as a sheet, in which `|` stands for byte 10, and prints what reading tells.
+#![tactic(auto)]
+
 use anyhow::anyhow;
 use sheet_faults::fault::SheetFault;
 use sheet_reader::reading::{Label, Sheet, read};

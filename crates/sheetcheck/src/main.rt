@@ -1,4 +1,6 @@
 //! Judges a formula sheet over the steps that follow it in a file or on standard input.
+#![tactic(auto)]
+
 use anyhow::anyhow;
 use input::lines::split_input;
 use input::places::line_around;

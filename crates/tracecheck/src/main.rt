@@ -1,4 +1,6 @@
 //! Judges a request-grant bench over the steps that standard input tells, one line a step.
+#![tactic(auto)]
+
 mod bench;
 mod lines;
 
