@@ -8,14 +8,14 @@ use Rattle.input.specs.Lines.{told, with_named}
 use Rattle.input.proofs.Named.{named_more, named_stop}
 use Rattle.input.proofs.lines.named_signals.Goals as goal
 
-pub returns-in-default-with-word : goal.returns-in-default-with-word
-returns-in-default-with-word c =
+pub returns-in_default-with_word : goal.returns-in_default-with_word
+returns-in_default-with_word c =
     let find = signal_named (reading_of c.args.sheet.now) c.args.text.now in
     let f = c.loop-next.from in
     let x = c.in-Some.next in
     let set = set_of c.loop-next.step in
     let next = (simp take_rest at c.in-Some.ensures).3 f in
-    let e = named_stop find set x.word.text.now (f + x.word.at) (parts 32 (f + x.used) (drop x.used (drop f c.args.line.now))) c.in-default-with-word.ensures in
+    let e = named_stop find set x.word.text.now (f + x.word.at) (parts 32 (f + x.used) (drop x.used (drop f c.args.line.now))) c.in_default-with_word.ensures in
     ap told (sym (ap (with_named find set) next ∙ e) ∙ c.loop-next.invariant.1)
 
 pub loop-next-preserved : goal.loop-next-preserved
@@ -26,7 +26,7 @@ loop-next-preserved c =
     let x = c.in-Some.next in
     let set = set_of c.loop-next.step in
     let w = simp take_rest at c.in-Some.ensures in
-    let k = c.in-Some-with-word.ensures in
+    let k = c.in-Some-with_word.ensures in
     let next = w.3 f in
     let e = named_more find set k.0 x.word.text.now (f + x.word.at) (parts 32 (f + x.used) (drop x.used (drop f s))) k.1 in (
       omega (arith, w.1, length-drop f s),
@@ -37,5 +37,5 @@ pub returns : goal.returns
 returns c =
     let find = signal_named (reading_of c.args.sheet.now) c.args.text.now in
     let f = c.loop-next.from in
-    let e = simp take_rest at (c.in-default.ensures f) in
+    let e = simp take_rest at (c.in_default.ensures f) in
     ap told (sym (ap (with_named find (set_of c.loop-next.step)) e) ∙ c.loop-next.invariant.1)

@@ -12,16 +12,16 @@ returns-then-blank c =
     let e = line_blank find ws (sym (c.if-blank.ensures 0)) in
     record { is = e; signals = λ s h. line_law find ws s (sym e ∙ h) }
 
-pub returns-then-only-word : goal.returns-then-only-word
-returns-then-only-word c =
+pub returns-then-only_word : goal.returns-then-only_word
+returns-then-only_word c =
     let find = signal_named (reading_of c.args.sheet.now) c.args.text.now in
     let ws = parts 32 0 c.args.line.now in
-    let e = line_dash find ws c.empty.result (sym (c.if-blank.ensures 0)) (sym c.if-only-word.ensures) c.empty.ensures in
+    let e = line_dash find ws c.empty.result (sym (c.if-blank.ensures 0)) (sym c.if-only_word.ensures) c.empty.ensures in
     record { is = e; signals = λ s h. line_law find ws s (sym e ∙ h) }
 
-pub returns-else-only-word : goal.returns-else-only-word
-returns-else-only-word c =
+pub returns-else-only_word : goal.returns-else-only_word
+returns-else-only_word c =
     let find = signal_named (reading_of c.args.sheet.now) c.args.text.now in
     let ws = parts 32 0 c.args.line.now in
-    let e = c.named-signals.ensures ∙ line_names find ws (sym (c.if-blank.ensures 0)) (sym c.if-only-word.ensures) in
+    let e = c.named_signals.ensures ∙ line_names find ws (sym (c.if-blank.ensures 0)) (sym c.if-only_word.ensures) in
     record { is = e; signals = λ s h. line_law find ws s (sym e ∙ h) }

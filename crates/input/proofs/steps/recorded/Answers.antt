@@ -15,22 +15,22 @@ loop-next-preserved g c =
     let f = c.loop-next.from in
     let x = c.in-Some.next in
     let w = simp take_rest at c.in-Some.ensures in
-    let e = c.in-ok-record-line.ensures in
+    let e = c.in_ok-record_line.ensures in
     let line = part x.word.text.now (f + x.word.at) in
     let more = one_taken find (parts 10 0 s) (parts 10 f (drop f s)) _ _ _ line _ c.loop-next.invariant.1 (w.3 f) e.0 e.1 in
     (omega (arith, w.1, length-drop f s), rw (← drop-drop x.used f s) more)
 
-pub returns-in-err-record-line : goal.returns-in-err-record-line
-returns-in-err-record-line g c =
-    let p = err_from_is_err_and c.from-residual.result c.from-residual.ensures.1 in
+pub returns-in_err-record_line : goal.returns-in_err-record_line
+returns-in_err-record_line g c =
+    let p = err_from_is_err_and c.from_residual.result c.from_residual.ensures.1 in
     let find = signal_named (reading_of c.args.sheet.now) c.args.text.now in
     let s = c.args.lines.now in
     let f = c.loop-next.from in
     let x = c.in-Some.next in
     let w = simp take_rest at c.in-Some.ensures in
-    let e = c.in-err-record-line.ensures in
+    let e = c.in_err-record_line.ensures in
     let line = part x.word.text.now (f + x.word.at) in
-    let y = c.record-line.new.recorder in
+    let y = c.record_line.new.recorder in
     rw (p.1, p.2)
     (stopped find (λ (v : ℕ). record_answer (g.R.Recording.width y) (g.R.Recorder.room y v) (length (g.R.Recording.steps y)) v) (parts 10 0 s) (parts 10 f (drop f s)) _ _ _ line _ _ c.loop-next.invariant.1 (w.3 f) e.0 e.1)
 
@@ -39,6 +39,6 @@ returns g c =
     let find = signal_named (reading_of c.args.sheet.now) c.args.text.now in
     let s = c.args.lines.now in
     let f = c.loop-next.from in
-    let none = simp take_rest at (c.in-default.ensures f) in
+    let none = simp take_rest at (c.in_default.ensures f) in
     let y = c.loop-next.recorder in
     all_taken find (λ (v : ℕ). record_answer (g.R.Recording.width y) (g.R.Recorder.room y v) (length (g.R.Recording.steps y)) v) (parts 10 0 s) (parts 10 f (drop f s)) _ _ c.loop-next.invariant.1 none

@@ -6,13 +6,13 @@ use Rattle.tracecheck.specs.Lines.{told, named}
 use Rattle.tracecheck.proofs.Named.{named_more, named_stop}
 use Rattle.tracecheck.proofs.lines.named_signals.Goals as goal
 
-pub returns-in-default-with-named : goal.returns-in-default-with-named
-returns-in-default-with-named c =
+pub returns-in_default-with_named : goal.returns-in_default-with_named
+returns-in_default-with_named c =
     let f = c.loop-next.from in
     let x = c.in-Some.next in
     let set = set_of c.loop-next.step in
     let next = (simp take_rest at c.in-Some.ensures).3 f in
-    let e = named_stop set x.word.text.now (f + x.word.at) (parts 32 (f + x.used) (drop x.used (drop f c.args.line.now))) c.in-default-with-named.ensures in
+    let e = named_stop set x.word.text.now (f + x.word.at) (parts 32 (f + x.used) (drop x.used (drop f c.args.line.now))) c.in_default-with_named.ensures in
     ap told (sym (ap (named set) next ∙ e) ∙ c.loop-next.invariant.1)
 
 pub loop-next-preserved : goal.loop-next-preserved
@@ -22,7 +22,7 @@ loop-next-preserved c =
     let x = c.in-Some.next in
     let set = set_of c.loop-next.step in
     let w = simp take_rest at c.in-Some.ensures in
-    let k = c.in-Some-with-named.ensures in
+    let k = c.in-Some-with_named.ensures in
     let next = w.3 f in
     let e = named_more set k.0 x.word.text.now (f + x.word.at) (parts 32 (f + x.used) (drop x.used (drop f s))) k.1 in (
       omega (arith, w.1, length-drop f s),
@@ -32,5 +32,5 @@ loop-next-preserved c =
 pub returns : goal.returns
 returns c =
     let f = c.loop-next.from in
-    let e = simp take_rest at (c.in-default.ensures f) in
+    let e = simp take_rest at (c.in_default.ensures f) in
     ap told (sym (ap (named (set_of c.loop-next.step)) e) ∙ c.loop-next.invariant.1)

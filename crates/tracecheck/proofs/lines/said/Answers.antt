@@ -11,14 +11,14 @@ returns-then-blank c =
     let e = line_blank ws (sym (c.if-blank.ensures 0)) in
     record { is = e; signals = λ s h. line_law ws s (sym e ∙ h) }
 
-pub returns-then-only-dash : goal.returns-then-only-dash
-returns-then-only-dash c =
+pub returns-then-only_dash : goal.returns-then-only_dash
+returns-then-only_dash c =
     let ws = parts 32 0 c.args.line.now in
-    let e = line_dash ws c.empty.result (sym (c.if-blank.ensures 0)) (sym c.if-only-dash.ensures) c.empty.ensures in
+    let e = line_dash ws c.empty.result (sym (c.if-blank.ensures 0)) (sym c.if-only_dash.ensures) c.empty.ensures in
     record { is = e; signals = λ s h. line_law ws s (sym e ∙ h) }
 
-pub returns-else-only-dash : goal.returns-else-only-dash
-returns-else-only-dash c =
+pub returns-else-only_dash : goal.returns-else-only_dash
+returns-else-only_dash c =
     let ws = parts 32 0 c.args.line.now in
-    let e = c.named-signals.ensures ∙ line_names ws (sym (c.if-blank.ensures 0)) (sym c.if-only-dash.ensures) in
+    let e = c.named_signals.ensures ∙ line_names ws (sym (c.if-blank.ensures 0)) (sym c.if-only_dash.ensures) in
     record { is = e; signals = λ s h. line_law ws s (sym e ∙ h) }

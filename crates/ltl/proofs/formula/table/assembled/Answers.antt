@@ -5,8 +5,8 @@ use Rattle.ltl.specs.declared.row.Row.TheVariants.{Signal}
 use Rattle.ltl.proofs.Rows.{fits_test}
 use Rattle.ltl.proofs.formula.table.assembled.Goals as goal
 
-pub invariant-of-result : goal.invariant-of-result
-invariant-of-result c =
+pub invariant_of-result : goal.invariant_of-result
+invariant_of-result c =
     let rows = c.args.rows.now in
     let w = c.args.width in
     let h = c.requires in (

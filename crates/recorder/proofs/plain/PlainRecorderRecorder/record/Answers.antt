@@ -3,12 +3,12 @@ use Rattle.recorder.specs.Plain.{plain_width, plain_capacity, plain_steps, plain
 use Rattle.recorder.proofs.Words.{plain_roomy, foreign}
 use Rattle.recorder.proofs.plain.PlainRecorderRecorder.record.Goals as goal
 
-pub returns-then-not-is-below : goal.returns-then-not-is-below
-returns-then-not-is-below c =
+pub returns-then-not-is_below : goal.returns-then-not-is_below
+returns-then-not-is_below c =
     let p = c.args.self.now in
     let s = c.args.step.bits in
     let n = length (plain_steps p) in
-    let h : ltb s (2 ^ plain_width p) ≡ false = sym (c.if-not-is-below.ensures.value ∙ ap (λ w. ltb s (2 ^ w)) c.width.ensures) in
+    let h : ltb s (2 ^ plain_width p) ≡ false = sym (c.if-not-is_below.ensures.value ∙ ap (λ w. ltb s (2 ^ w)) c.width.ensures) in
     record {
       answer = foreign (plain_width p) n s (plain_room p s) h;
       steps = refl;

@@ -10,7 +10,7 @@ returns-then-same c =
     let n = c.args.names.now in
     let t = c.args.text.now in
     let few : n.len ≤ length n.table = omega (arith, n.few, n.sized) in
-    let e = ap (λ l. bytes_eq l t) (sym c.text-of.ensures) ∙ sym c.if-same.ensures in
+    let e = ap (λ l. bytes_eq l t) (sym c.text_of.ensures) ∙ sym c.if-same.ensures in
     (c.loop-i-test.true, λ d. c.loop-i.invariant ∙ hit c.args.sheet.now n.table n.len t c.loop-i.i few _ c.loop-i-test.true e ∙ ap (λ (x : Name). Some x.row) (get_or_default n.table c.loop-i.i _ d (omega (arith, c.loop-i-test.true, few))))
 
 pub loop-i-preserved : goal.loop-i-preserved
@@ -18,7 +18,7 @@ loop-i-preserved c =
     let n = c.args.names.now in
     let t = c.args.text.now in
     let few : n.len ≤ length n.table = omega (arith, n.few, n.sized) in
-    let e = ap (λ l. bytes_eq l t) (sym c.text-of.ensures) ∙ sym c.if-same.ensures in
+    let e = ap (λ l. bytes_eq l t) (sym c.text_of.ensures) ∙ sym c.if-same.ensures in
     c.loop-i.invariant ∙ miss c.args.sheet.now n.table n.len t c.loop-i.i few _ c.loop-i-test.true e
 
 pub returns : goal.returns

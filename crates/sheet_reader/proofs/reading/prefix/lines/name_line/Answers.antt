@@ -11,40 +11,40 @@ use Rattle.sheet_reader.proofs.Questions.{yes_room}
 use Rattle.sheet_reader.proofs.Sound.{known_from}
 use Rattle.sheet_reader.proofs.reading.prefix.lines.name_line.Goals as goal
 
-pub returns-in-err-operator-first : goal.returns-in-err-operator-first
-returns-in-err-operator-first c =
-    let p = err_from_is_err_and c.from-residual-in-err-operator-first.result c.from-residual-in-err-operator-first.ensures.1 in
+pub returns-in_err-operator_first : goal.returns-in_err-operator_first
+returns-in_err-operator_first c =
+    let p = err_from_is_err_and c.from_residual-in_err-operator_first.result c.from_residual-in_err-operator_first.ensures.1 in
     let sheet = c.args.sheet.now in
     let st = state_of c.args.plan.now in
     let s = c.args.rest.now in
     let base = c.args.base in
-    let x = c.in-ok-name.name in
-    let n = c.in-ok-name.ensures in
-    let o = operator_rest sheet st.names s base x.used n.0 ∙ sym c.in-err-operator-first.ensures in
+    let x = c.in_ok-name.name in
+    let n = c.in_ok-name.ensures in
+    let o = operator_rest sheet st.names s base x.used n.0 ∙ sym c.in_err-operator_first.ensures in
     rw (p.1, p.2) (record { told = sym (name_no_operator sheet st c.args.first (base + length s) (parts 32 base s) _ _ _ n.1 o); counted = tt })
 
-pub whole-formula-requires : goal.whole-formula-requires
-whole-formula-requires c =
+pub whole_formula-requires : goal.whole_formula-requires
+whole_formula-requires c =
     let p = c.args.plan.now in
     let ready = c.requires.ready in
-    let n = c.in-ok-name.ensures in
+    let n = c.in_ok-name.ensures in
     record {
       places = simp (take_rest, length-drop) (omega (arith, n.0));
       known = λ t r e. omega (arith, known_from c.args.sheet.now (names_in p.names) (length (kept p.draft)) ready.sound.named t r e, kept_all p.draft ready.counted);
       few = ready.counted;
     }
 
-pub returns-in-err-row : goal.returns-in-err-row
-returns-in-err-row c =
-    let p = err_from_is_err_and c.from-residual-in-err-row.result c.from-residual-in-err-row.ensures.1 in
+pub returns-in_err-row : goal.returns-in_err-row
+returns-in_err-row c =
+    let p = err_from_is_err_and c.from_residual-in_err-row.result c.from_residual-in_err-row.ensures.1 in
     let sheet = c.args.sheet.now in
     let st = state_of c.args.plan.now in
     let s = c.args.rest.now in
     let base = c.args.base in
-    let x = c.in-ok-name.name in
-    let n = c.in-ok-name.ensures in
-    let o = operator_rest sheet st.names s base x.used n.0 ∙ sym c.in-ok-operator-first.ensures in
-    let q = formula_rest sheet st.names s base x.used n.0 ∙ c.in-err-row.ensures in
+    let x = c.in_ok-name.name in
+    let n = c.in_ok-name.ensures in
+    let o = operator_rest sheet st.names s base x.used n.0 ∙ sym c.in_ok-operator_first.ensures in
+    let q = formula_rest sheet st.names s base x.used n.0 ∙ c.in_err-row.ensures in
     rw (p.1, p.2) (record { told = sym (name_no_formula sheet st c.args.first (base + length s) (parts 32 base s) _ _ _ n.1 o q); counted = tt })
 
 pub returns-then-plan-gt-ROWS : goal.returns-then-plan-gt-ROWS
@@ -54,10 +54,10 @@ returns-then-plan-gt-ROWS c =
     let st = state_of p in
     let s = c.args.rest.now in
     let base = c.args.base in
-    let x = c.in-ok-name.name in
-    let n = c.in-ok-name.ensures in
-    let o = operator_rest sheet st.names s base x.used n.0 ∙ sym c.in-ok-operator-first.ensures in
-    let w = c.in-ok-row.ensures in
+    let x = c.in_ok-name.name in
+    let n = c.in_ok-name.ensures in
+    let o = operator_rest sheet st.names s base x.used n.0 ∙ sym c.in_ok-operator_first.ensures in
+    let w = c.in_ok-row.ensures in
     let t = w.formula in
     let q = formula_rest sheet st.names s base x.used n.0 ∙ w.asked in
     let word = part x.word.text.now x.word.at in
@@ -72,10 +72,10 @@ declare-requires c =
     let st = state_of p in
     let s = c.args.rest.now in
     let base = c.args.base in
-    let x = c.in-ok-name.name in
-    let n = c.in-ok-name.ensures in
-    let w = c.in-ok-row.ensures in
-    let o = operator_rest sheet st.names s base x.used n.0 ∙ sym c.in-ok-operator-first.ensures in
+    let x = c.in_ok-name.name in
+    let n = c.in_ok-name.ensures in
+    let w = c.in_ok-row.ensures in
+    let o = operator_rest sheet st.names s base x.used n.0 ∙ sym c.in_ok-operator_first.ensures in
     let q = formula_rest sheet st.names s base x.used n.0 ∙ w.asked in
     let some = named_size sheet st.names (parts 32 (base + x.used) (drop x.used s)) (base + length s) w.formula o q in
     let ready = c.requires.ready in
@@ -88,11 +88,11 @@ returns c =
     let st = state_of p in
     let s = c.args.rest.now in
     let base = c.args.base in
-    let x = c.in-ok-name.name in
-    let n = c.in-ok-name.ensures in
+    let x = c.in_ok-name.name in
+    let n = c.in_ok-name.ensures in
     let few = c.requires.ready.counted in
-    let o = operator_rest sheet st.names s base x.used n.0 ∙ sym c.in-ok-operator-first.ensures in
-    let w = c.in-ok-row.ensures in
+    let o = operator_rest sheet st.names s base x.used n.0 ∙ sym c.in_ok-operator_first.ensures in
+    let w = c.in_ok-row.ensures in
     let t = w.formula in
     let q = formula_rest sheet st.names s base x.used n.0 ∙ w.asked in
     let word = part x.word.text.now x.word.at in

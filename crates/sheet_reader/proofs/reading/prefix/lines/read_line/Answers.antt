@@ -14,9 +14,9 @@ returns-in-Signal c =
     let x = c.in-Some.next in
     let n = c.in-Some.ensures in
     let word = part x.word.text.now x.word.at in
-    let k = ap Ok (sym c.in-Signal.is) ∙ c.in-ok-keyword.ensures in
+    let k = ap Ok (sym c.in-Signal.is) ∙ c.in_ok-keyword.ensures in
     let by = words_by sheet st (parts 32 base s) (base + length s) word _ key.Signal n.2 k in
-    record { told = c.signal-line.ensures.told ∙ keyword_rest sheet st.names s base x.used n.1 st x.word.at key.Signal ∙ sym by; counted = c.signal-line.ensures.counted }
+    record { told = c.signal_line.ensures.told ∙ keyword_rest sheet st.names s base x.used n.1 st x.word.at key.Signal ∙ sym by; counted = c.signal_line.ensures.counted }
 
 pub returns-in-Name : goal.returns-in-Name
 returns-in-Name c =
@@ -27,9 +27,9 @@ returns-in-Name c =
     let x = c.in-Some.next in
     let n = c.in-Some.ensures in
     let word = part x.word.text.now x.word.at in
-    let k = ap Ok (sym c.in-Name.is) ∙ c.in-ok-keyword.ensures in
+    let k = ap Ok (sym c.in-Name.is) ∙ c.in_ok-keyword.ensures in
     let by = words_by sheet st (parts 32 base s) (base + length s) word _ key.Name n.2 k in
-    record { told = c.name-line.ensures.told ∙ keyword_rest sheet st.names s base x.used n.1 st x.word.at key.Name ∙ sym by; counted = c.name-line.ensures.counted }
+    record { told = c.name_line.ensures.told ∙ keyword_rest sheet st.names s base x.used n.1 st x.word.at key.Name ∙ sym by; counted = c.name_line.ensures.counted }
 
 pub returns-in-Watch : goal.returns-in-Watch
 returns-in-Watch c =
@@ -40,6 +40,6 @@ returns-in-Watch c =
     let x = c.in-Some.next in
     let n = c.in-Some.ensures in
     let word = part x.word.text.now x.word.at in
-    let k = ap Ok (sym c.in-Watch.is) ∙ c.in-ok-keyword.ensures in
+    let k = ap Ok (sym c.in-Watch.is) ∙ c.in_ok-keyword.ensures in
     let by = words_by sheet st (parts 32 base s) (base + length s) word _ key.Watch n.2 k in
-    record { told = c.watch-line.ensures.told ∙ keyword_rest sheet st.names s base x.used n.1 st x.word.at key.Watch ∙ sym by; counted = c.watch-line.ensures.counted }
+    record { told = c.watch_line.ensures.told ∙ keyword_rest sheet st.names s base x.used n.1 st x.word.at key.Watch ∙ sym by; counted = c.watch_line.ensures.counted }

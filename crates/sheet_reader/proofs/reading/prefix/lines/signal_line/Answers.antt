@@ -11,15 +11,15 @@ use Rattle.sheet_reader.proofs.Questions.{yes_room}
 use Rattle.sheet_reader.proofs.reading.prefix.lines.signal_line.Goals as goal
 use Rattle.sheet_reader.proofs.reading.prefix.lines.signal_line.Goals.{then-plan-ge-SIGNALS-via-then-plan-ge-SIGNALS, then-plan-ge-SIGNALS-via-else-plan-ge-SIGNALS+then-plan-ge-ROWS}
 
-pub returns-in-err-nothing-more : goal.returns-in-err-nothing-more
-returns-in-err-nothing-more c =
-    let p = err_from_is_err_and c.from-residual-in-err-nothing-more.result c.from-residual-in-err-nothing-more.ensures.1 in
+pub returns-in_err-nothing_more : goal.returns-in_err-nothing_more
+returns-in_err-nothing_more c =
+    let p = err_from_is_err_and c.from_residual-in_err-nothing_more.result c.from_residual-in_err-nothing_more.ensures.1 in
     let st = state_of c.args.plan.now in
     let s = c.args.rest.now in
     let base = c.args.base in
-    let x = c.in-ok-name.name in
-    let n = c.in-ok-name.ensures in
-    let rest = c.in-err-nothing-more.ensures ∙ ap (λ l. ask_nothing (parts 32 (base + x.used) l)) (take_rest s x.used) in
+    let x = c.in_ok-name.name in
+    let n = c.in_ok-name.ensures in
+    let rest = c.in_err-nothing_more.ensures ∙ ap (λ l. ask_nothing (parts 32 (base + x.used) l)) (take_rest s x.used) in
     let word = part x.word.text.now x.word.at in
     rw (p.1, p.2) (record { told = sym (signal_surplus c.args.sheet.now st c.args.first (base + length s) (parts 32 base s) word _ _ n.1 (sym rest)); counted = tt })
 
@@ -29,9 +29,9 @@ returns-then-plan-ge-SIGNALS c =
     let st = state_of p in
     let s = c.args.rest.now in
     let base = c.args.base in
-    let x = c.in-ok-name.name in
-    let n = c.in-ok-name.ensures in
-    let none = sym (c.in-ok-nothing-more.ensures ∙ ap (λ l. ask_nothing (parts 32 (base + x.used) l)) (take_rest s x.used)) in
+    let x = c.in_ok-name.name in
+    let n = c.in_ok-name.ensures in
+    let none = sym (c.in_ok-nothing_more.ensures ∙ ap (λ l. ask_nothing (parts 32 (base + x.used) l)) (take_rest s x.used)) in
     let word = part x.word.text.now x.word.at in
     let by = signal_by c.args.sheet.now st c.args.first (base + length s) (parts 32 base s) word _ n.1 none in
     let rows = length_push st.rows (Signal st.width) in
@@ -49,10 +49,10 @@ returns c =
     let st = state_of p in
     let s = c.args.rest.now in
     let base = c.args.base in
-    let x = c.in-ok-name.name in
-    let n = c.in-ok-name.ensures in
+    let x = c.in_ok-name.name in
+    let n = c.in_ok-name.ensures in
     let few = c.requires.ready.counted in
-    let none = sym (c.in-ok-nothing-more.ensures ∙ ap (λ l. ask_nothing (parts 32 (base + x.used) l)) (take_rest s x.used)) in
+    let none = sym (c.in_ok-nothing_more.ensures ∙ ap (λ l. ask_nothing (parts 32 (base + x.used) l)) (take_rest s x.used)) in
     let word = part x.word.text.now x.word.at in
     let by = signal_by c.args.sheet.now st c.args.first (base + length s) (parts 32 base s) word _ n.1 none in
     let all = kept_all p.draft few in

@@ -9,8 +9,8 @@ use Rattle.sheet_reader.proofs.Questions.{yes_room}
 use Rattle.sheet_reader.proofs.Sound.{known_from}
 use Rattle.sheet_reader.proofs.reading.prefix.lines.watch_line.Goals as goal
 
-pub whole-formula-requires : goal.whole-formula-requires
-whole-formula-requires c =
+pub whole_formula-requires : goal.whole_formula-requires
+whole_formula-requires c =
     let p = c.args.plan.now in
     let ready = c.requires.ready in
     record { places = c.requires.places; known = λ t r e. omega (arith, known_from c.args.sheet.now (names_in p.names) (length (kept p.draft)) ready.sound.named t r e, kept_all p.draft ready.counted); few = ready.counted }
@@ -21,7 +21,7 @@ returns-then-plan-gt-ROWS c =
     let st = state_of p in
     let s = c.args.rest.now in
     let base = c.args.base in
-    let w = c.in-ok-row.ensures in
+    let w = c.in_ok-row.ensures in
     let t = w.formula in
     let long = added_count p.draft c.requires.ready.counted w.added in
     let by = watch_by c.args.sheet.now st c.args.first (base + length s) (parts 32 base s) t w.asked in
@@ -33,7 +33,7 @@ returns c =
     let st = state_of p in
     let s = c.args.rest.now in
     let base = c.args.base in
-    let w = c.in-ok-row.ensures in
+    let w = c.in_ok-row.ensures in
     let t = w.formula in
     let few = c.requires.ready.counted in
     let long = added_count p.draft few w.added in
