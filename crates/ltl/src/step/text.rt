@@ -9,7 +9,7 @@ use std::fmt;
 
 /// Writes the signals from k on, each behind a comma.
 fn show_others<W: fmt::Write>(step: Step, k: u8, f: &mut fmt::Formatter<W>) -> fmt::Result
-    ensures { WritesOnOk write_str_gives f.old result (after_others (signals_from (64 - k) k (set_of step))) f.new }
+    ensures { WritesOnOk W.write_str_gives f.old result (after_others (signals_from (64 - k) k (set_of step))) f.new }
 {
     if k >= 64 {
         return Ok(());
@@ -23,7 +23,7 @@ fn show_others<W: fmt::Write>(step: Step, k: u8, f: &mut fmt::Formatter<W>) -> f
 
 /// Writes the signals from k on, with commas between them.
 fn show_signals<W: fmt::Write>(step: Step, k: u8, f: &mut fmt::Formatter<W>) -> fmt::Result
-    ensures { WritesOnOk write_str_gives f.old result (commas (signals_from (64 - k) k (set_of step))) f.new }
+    ensures { WritesOnOk W.write_str_gives f.old result (commas (signals_from (64 - k) k (set_of step))) f.new }
 {
     if k >= 64 {
         return Ok(());

@@ -12,7 +12,7 @@ pub returns-then-has : goal.returns-then-has
 returns-then-has g t c = λ plain ok.
     let e = with_first 64 c.args.k c.args.step.bits c.if-k-ge64.false (sym c.if-has.ensures) in
     let rest = signals_from (64 - (c.args.k + 1)) (c.args.k + 1) c.args.step.bits in
-    let a = c.in_ok-write.ensures.shows plain (refl {a = true}) in
+    let a = c.in_ok-write.ensures.writes plain (refl {a = true}) in
     let b = c.show_others.ensures a.plain ok in
     rw e (has_written_append g.W.Write.write_str_gives c.args.f.now (decimal c.args.k) c.write.new.self (after_others rest) c.show_others.new.f a b)
 
