@@ -1,5 +1,5 @@
 -- A pair has one side impossible exactly where the steps decide.
-use Rattle.std.proofs.Common.{◌≡◌, ℕ, ◌+◌, ◌<◌, ◌≤◌, Bool, true, false, cond, leb, List, length, take, sym, refl, ap, ◌∙◌, arith}
+use Rattle.std.proofs.Common.{◌≡◌, ℕ, ◌+◌, ◌≤◌, leb, List, length, sym, refl, ap, ◌∙◌, arith}
 use Rattle.std.proofs.lemmas.Bool.{le-leb}
 use Rattle.std.proofs.lemmas.List.{take_all}
 use Rattle.scales.specs.Truths.{truth_ops, mirror}
@@ -7,10 +7,8 @@ use Rattle.scales.specs.Pairs.{pair, pair_ops}
 use Rattle.ltl.specs.Trees.{Tree, not}
 use Rattle.ltl.specs.Values.{value}
 use Rattle.ltl.specs.Cuts.{Decide, Agrees}
-use Rattle.scales.specs.declared.truth.Truth.{Truth}
-use Rattle.scales.specs.declared.truth.Truth.TheVariants.{False, Undecided, True}
-use Rattle.scales.specs.declared.pair.Count.{Count}
-use Rattle.scales.specs.declared.pair.Count.TheVariants.{Number, Infinite, Impossible}
+use Rattle.scales.specs.declared.truth.Truth.TheVariants.{True}
+use Rattle.scales.specs.declared.pair.Count.TheVariants.{Number, Impossible}
 use Rattle.scales.specs.declared.pair.Pair.{Pair}
 use Rattle.ltl.proofs.Cuts.{Fit, sat, vio, und, cut_pair, cut_far, fit, after_cut, near, not_und, never_low, mirrored}
 

@@ -1,9 +1,9 @@
 -- Induction from the end, and how values unroll.
-use Rattle.std.proofs.Common.{◌≡◌, ℕ, zero, suc, ◌+◌, ◌-◌, ◌<◌, ◌≤◌, Bool, true, false, cond, leb, ◌⊎◌, List, [], ◌∷◌, ◌++◌, length, get_or, take, sym, refl, ap, ◌∙◌, inl, inr, ⊎_elim, arith}
+use Rattle.std.proofs.Common.{◌≡◌, ℕ, zero, suc, ◌+◌, ◌-◌, ◌<◌, ◌≤◌, cond, List, length, ap, ⊎_elim, arith}
 use Rattle.std.proofs.lemmas.Bool.{le-leb, lt-leb, cases_lt}
 use Rattle.ltl.specs.Steps.{has, step_at}
 use Rattle.scales.specs.Scales.{Ops, meet}
-use Rattle.ltl.specs.Trees.{Tree, signal, not, or, next, until, eventually}
+use Rattle.ltl.specs.Trees.{Tree, signal, until, eventually}
 use Rattle.ltl.specs.Values.{ahead, value}
 
 module _ (n : ℕ) (P : ℕ → Type 0) (late : (i : ℕ) → n < i → P i) (step : (i : ℕ) → i ≤ n → P (suc i) → P i) where

@@ -1,9 +1,9 @@
 -- Cutting the steps, seen on the pair over all of them.
-use Rattle.std.proofs.Common.{◌≡◌, ℕ, zero, suc, ◌+◌, ◌-◌, ◌<◌, ◌≤◌, min, max, Bool, true, false, cond, leb, ◌⊎◌, List, [], ◌∷◌, ◌++◌, length, get_or, take, sym, refl, ap, ◌∙◌, subst, inl, inr, ⊎_elim, arith}
+use Rattle.std.proofs.Common.{◌≡◌, ℕ, zero, suc, ◌+◌, ◌<◌, ◌≤◌, min, max, Bool, true, false, cond, leb, List, length, take, sym, refl, ap, ◌∙◌, ⊎_elim, arith}
 use Rattle.std.proofs.lemmas.Bool.{le-leb, lt-leb, cases_lt, cases_order, true≢false}
 use Rattle.std.proofs.lemmas.List.{length-take-le, get_or-take}
 use Rattle.ltl.specs.Steps.{has, step_at}
-use Rattle.scales.specs.Scales.{Ops, meet}
+use Rattle.scales.specs.Scales.{meet}
 use Rattle.scales.specs.Truths.{truth_ops, mirror, upper}
 use Rattle.scales.specs.Pairs.{pair, pair_ops, least, most, one_more, Shape, true_after, false_after, both_numbers, never_false, never_true, neither}
 use Rattle.ltl.specs.Trees.{Tree, signal, not, or, next, until, eventually}

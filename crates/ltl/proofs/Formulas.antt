@@ -1,9 +1,9 @@
 -- What holds of every formula that exists.
-use Rattle.std.proofs.Common.{◌≡◌, ℕ, ◌<◌, ◌≤◌, true, length, get_or, take, sym, ap, ◌∙◌, arith}
+use Rattle.std.proofs.Common.{ℕ, ◌<◌, length, get_or, arith}
 use Rattle.std.proofs.lemmas.List.{length-take, get_or-take}
 use Rattle.ltl.specs.Endless.{SignalsBelow}
 use Rattle.ltl.specs.Rows.{Fits}
-use Rattle.ltl.specs.Formulas.{rows_of, row_count, width_of, tree}
+use Rattle.ltl.specs.Formulas.{rows_of, width_of, tree}
 use Rattle.ltl.specs.declared.formula.Formula.{Formula}
 use Rattle.ltl.specs.declared.row.Row.TheVariants.{Signal}
 use Rattle.ltl.proofs.Rows.{fits_tells}

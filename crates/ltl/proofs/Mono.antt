@@ -1,5 +1,5 @@
 -- A truer list of steps has a truer value.
-use Rattle.std.proofs.Common.{◌≡◌, ℕ, zero, suc, ◌+◌, ◌-◌, Bool, true, false, cond, leb, List, length, sym, refl, ap, ◌∙◌, subst}
+use Rattle.std.proofs.Common.{◌≡◌, ℕ, zero, suc, ◌+◌, ◌-◌, Bool, true, false, cond, leb, List, length, sym, refl}
 use Rattle.ltl.specs.Steps.{has, step_at}
 use Rattle.scales.specs.Scales.{Ops, Laws, meet}
 use Rattle.ltl.specs.Trees.{Tree, signal, not, or, next, until, eventually}

@@ -1,7 +1,7 @@
 -- When one step is at least as true as another for a formula.
-use Rattle.std.proofs.Common.{◌≡◌, ℕ, ◌≤◌, Bool, true, List, length}
+use Rattle.std.proofs.Common.{◌≡◌, ℕ, true, List, length}
 use Rattle.ltl.specs.Steps.{has, step_at}
-use Rattle.scales.specs.Scales.{Ops, Laws}
+use Rattle.scales.specs.Scales.{Ops}
 use Rattle.ltl.specs.Trees.{Tree, signal, not, or, next, until, eventually}
 use Rattle.ltl.specs.Values.{value}
 

@@ -1,6 +1,6 @@
 -- The promises, of every formula at every position.
 use Rattle.std.proofs.Common.{ℕ, ◌≤◌, List, length}
-use Rattle.ltl.specs.Endless.{StepsBelow, SignalsBelow}
+use Rattle.ltl.specs.Endless.{StepsBelow}
 use Rattle.ltl.specs.Promises.{OpenTold, PairTold, OrderTold}
 use Rattle.scales.specs.Scales.{Ops, Laws}
 use Rattle.ltl.specs.Trees.{Tree}

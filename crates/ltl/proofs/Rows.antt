@@ -1,5 +1,5 @@
 -- The test of a row and the fact.
-use Rattle.std.proofs.Common.{◌≡◌, ℕ, true, ◌&&◌, ltb}
+use Rattle.std.proofs.Common.{◌≡◌, ℕ, true, ltb}
 use Rattle.std.proofs.lemmas.Bool.{and_parts, and_from, ltb-true, lt-ltb}
 use Rattle.ltl.specs.Rows.{fits, Fits}
 use Rattle.ltl.specs.declared.row.Row.{Row}

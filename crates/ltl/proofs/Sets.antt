@@ -2,7 +2,7 @@
 use Rattle.std.proofs.Common.{◌≡◌, ℕ, zero, suc, ◌+◌, ◌-◌, ◌*◌, ◌/◌, ◌%◌, ◌^◌, ◌<◌, ◌≤◌, max, Bool, true, false, ◌||◌, T, eqb, ltb, leb, ◌⊎◌, ◌↔◌, sym, refl, ap, ◌∙◌, inl, inr, ⊎_elim, arith}
 use native.Mathlib.Nat.{div-eq_of_lt, div-eq_of_lt-le}
 use lib.Bits.{bit_or, or_step}
-use Rattle.std.proofs.lemmas.Nat.{or_shr, pow_pos, pow-add, pow_below, shr-shr, shr_split, shl-shr, mod_below, leading_top, le-div}
+use Rattle.std.proofs.lemmas.Nat.{or_shr, pow_pos, pow-add, pow_below, shl-shr, mod_below, leading_top, le-div}
 use Rattle.std.proofs.lemmas.Bool.{cases_lt, cases_order, eq-eqb, ne_eqb, true≢false, ltb-true, lt-ltb, le-ltb, le-leb}
 use Rattle.ltl.specs.Steps.{has, Below}
 

@@ -1,5 +1,5 @@
 -- The signals of a step from a number on, by the first of them.
-use Rattle.std.proofs.Common.{◌≡◌, ℕ, zero, suc, ◌+◌, ◌-◌, ◌<◌, ◌≤◌, true, false, cond, List, [], ◌∷◌, ap, ◌∙◌, add-one, arith}
+use Rattle.std.proofs.Common.{◌≡◌, ℕ, suc, ◌+◌, ◌-◌, ◌<◌, ◌≤◌, true, false, cond, [], ◌∷◌, ◌∙◌, add-one, arith}
 use Rattle.ltl.specs.Steps.{has}
 use Rattle.ltl.specs.Shown.{signals_from}
 

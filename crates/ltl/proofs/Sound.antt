@@ -1,9 +1,9 @@
 -- What is decided holds on every continuation or on none; what is undecided goes both ways.
-use Rattle.std.proofs.Common.{◌≡◌, ℕ, zero, suc, ◌+◌, ◌-◌, ◌*◌, ◌/◌, ◌%◌, ◌^◌, ◌<◌, ◌≤◌, Bool, true, false, cond, ◌||◌, T, eqb, leb, ◌⊎◌, List, [], ◌∷◌, ◌++◌, length, get_or, take, sym, refl, ap, ◌∙◌, subst, inl, inr, ⊎_elim, arith}
+use Rattle.std.proofs.Common.{◌≡◌, ℕ, zero, suc, ◌+◌, ◌*◌, ◌/◌, ◌%◌, ◌^◌, ◌<◌, ◌≤◌, Bool, true, false, cond, T, eqb, ◌⊎◌, List, length, sym, refl, ap, ◌∙◌, inl, inr, ⊎_elim, arith}
 use Rattle.std.proofs.lemmas.Bool.{le-leb, lt-leb, cases_lt, true≢false, eq-eqb, ne_eqb, eqb-true, or_cases, or_left, or_right}
 use Rattle.std.proofs.lemmas.Nat.{shr-shr, pow-add}
 use Rattle.ltl.specs.Steps.{has, step_at}
-use Rattle.scales.specs.Scales.{Ops, meet}
+use Rattle.scales.specs.Scales.{meet}
 use Rattle.scales.specs.Truths.{truth_ops, mirror, upper}
 use Rattle.ltl.specs.Trees.{Tree, signal, not, or, next, until, eventually}
 use Rattle.ltl.specs.Values.{value}
@@ -12,7 +12,7 @@ use Rattle.ltl.specs.Cuts.{Decide}
 use Rattle.ltl.specs.Endless.{Holds, Continues, onward, step_of, Sound, SignalsBelow, StepsBelow, OneSided, best, worst, Continuation, BothWays}
 use Rattle.scales.specs.declared.truth.Truth.{Truth}
 use Rattle.scales.specs.declared.truth.Truth.TheVariants.{False, Undecided, True}
-use Rattle.ltl.proofs.Back.{back, eventually_in, eventually_past, until_in, until_past, signal_in, signal_past}
+use Rattle.ltl.proofs.Back.{back, eventually_in, until_in, signal_in, signal_past}
 use Rattle.ltl.proofs.Cuts.{late}
 
 -- true enough: u says whether undecided is

@@ -1,10 +1,10 @@
 -- The tree of a row is made from the trees of its operands.
-use Rattle.std.proofs.Common.{◌≡◌, ℕ, zero, suc, ◌+◌, ◌-◌, ◌<◌, ◌≤◌, Bool, true, false, cond, ltb, leb, ◌⊎◌, List, [], ◌∷◌, ◌++◌, length, get_or, sym, refl, ap, ◌∙◌, subst, inl, inr, ⊎_elim, add-zero, add-suc, add-one, arith}
-use Rattle.std.proofs.lemmas.Bool.{le-leb, lt-leb, cases_lt, cond-true, cond-false, and_parts, ltb-true}
+use Rattle.std.proofs.Common.{◌≡◌, ℕ, zero, suc, ◌+◌, ◌<◌, ◌≤◌, cond, leb, ◌⊎◌, List, [], ◌∷◌, ◌++◌, length, get_or, sym, refl, ap, ◌∙◌, subst, inl, inr, ⊎_elim, add-one, arith}
+use Rattle.std.proofs.lemmas.Bool.{le-leb, lt-leb, cases_lt, cond-true, cond-false}
 use Rattle.std.proofs.lemmas.List.{get_or_append_left, get_or_push, length_push}
 use Rattle.scales.specs.Scales.{Ops, meet}
-use Rattle.ltl.specs.Trees.{Tree, signal, not, or, next, until, eventually, tree_at, tree_of, trees_after, trees}
-use Rattle.ltl.specs.Rows.{fits, Fits}
+use Rattle.ltl.specs.Trees.{Tree, signal, not, next, until, eventually, tree_at, tree_of, trees_after, trees}
+use Rattle.ltl.specs.Rows.{Fits}
 use Rattle.ltl.specs.Values.{signal_value, value}
 use Rattle.ltl.specs.declared.row.Row.{Row}
 use Rattle.ltl.specs.declared.row.Row.TheVariants.{Signal, Not, Or, Next, Until, Eventually}

@@ -1,10 +1,10 @@
 -- The laws by which values unfold, and that they stay after the end.
-use Rattle.std.proofs.Common.{◌≡◌, ℕ, suc, ◌+◌, ◌-◌, ◌<◌, ◌≤◌, true, false, cond, leb, List, length, sym, refl, ap, ◌∙◌, add-one, arith}
+use Rattle.std.proofs.Common.{◌≡◌, ℕ, suc, ◌+◌, ◌<◌, List, length, sym, ap, ◌∙◌, add-one, arith}
 use Rattle.std.proofs.lemmas.Bool.{lt-leb}
-use Rattle.scales.specs.Scales.{Ops, meet}
+use Rattle.scales.specs.Scales.{Ops}
 use Rattle.ltl.specs.Trees.{Tree, signal, not, or, next, until, eventually}
 use Rattle.ltl.specs.Values.{value}
-use Rattle.ltl.proofs.Back.{eventually_in, eventually_past, until_in, until_past}
+use Rattle.ltl.proofs.Back.{eventually_past, until_past}
 
 module _ {V : Type 0} (o : Ops V) (steps : List ℕ) where
   pub next_at : (a : Tree) (i : ℕ) → value o steps (next a) i ≡ o.later (value o steps a (i + 1))

@@ -1,8 +1,8 @@
 -- Worked examples of the definitions.
-use Rattle.std.specs.Prelude.{◌≡◌, ℕ, List, [], ◌∷◌}
+use Rattle.std.specs.Prelude.{◌≡◌, [], ◌∷◌}
 use Rattle.scales.specs.Scales.{meet}
 use Rattle.scales.specs.Pairs.{pair, pair_ops}
-use Rattle.ltl.specs.Trees.{Tree, signal, not, or, next, until, eventually}
+use Rattle.ltl.specs.Trees.{signal, not, or, until, eventually}
 use Rattle.ltl.specs.Values.{value}
 use Rattle.scales.specs.declared.pair.Count.TheVariants.{Number, Infinite, Impossible}
 

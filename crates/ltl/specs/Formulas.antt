@@ -1,5 +1,5 @@
 -- What a formula of the program means.
-use Rattle.std.specs.Prelude.{ℕ, List, length, take}
+use Rattle.std.specs.Prelude.{ℕ, List, take}
 use Rattle.ltl.specs.declared.formula.Formula.{Formula}
 use Rattle.ltl.specs.declared.row.Row.{Row}
 use Rattle.ltl.specs.Tables.{Table}

@@ -1,6 +1,5 @@
 -- The number, part and place of each refusal, and its words.
 use Rattle.std.specs.Prelude.{ℕ, List, codes}
-use Rattle.ltl.specs.declared.refusal.Part.{Part}
 use Rattle.ltl.specs.declared.refusal.Part.TheVariants.{Recording}
 use Rattle.ltl.specs.declared.refusal.Refusal.{Refusal}
 use Rattle.recorder.specs.declared.fault.RecordFault.{RecordFault}

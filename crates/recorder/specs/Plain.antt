@@ -1,7 +1,7 @@
 -- What a plain recorder means, by its width, its count of steps held, and its words.
 -- Reading is total: a width outside 1 to 32, a count above the words, and bits from the width on are cut off.
 -- So the meaning needs no invariant over the lent words; opening and recording never leave anything to cut.
-use Rattle.std.specs.Prelude.{ℕ, ◌%◌, ◌^◌, min, max, Bool, ◌&&◌, List, map, length, take, set, Ok, Err, Result, nat_lt, slice_set}
+use Rattle.std.specs.Prelude.{ℕ, ◌%◌, ◌^◌, min, max, Bool, ◌&&◌, List, map, length, take, Ok, Err, Result, nat_lt, slice_set}
 use Rattle.recorder.specs.declared.fault.RecordFault.{RecordFault}
 use Rattle.recorder.specs.declared.plain.PlainRecorder.{PlainRecorder}
 

@@ -1,5 +1,5 @@
 -- The proof that a plain recorder is a lawful recording; it stands here because the implementation cites it.
-use Rattle.std.specs.Prelude.{ℕ, zero, suc, ◌%◌, ◌^◌, ◌<◌, min, max, List, [], ◌∷◌, map, length, take}
+use Rattle.std.specs.Prelude.{ℕ, zero, suc, ◌^◌, ◌<◌, List, [], ◌∷◌, map, length, take}
 use Rattle.std.proofs.Common.{arith}
 use Rattle.ltl.specs.Steps.{step_at}
 use Rattle.std.proofs.lemmas.Nat.{mod_below, pow_pos}

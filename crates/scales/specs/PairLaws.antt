@@ -1,11 +1,9 @@
 -- The proof that the scale of pairs keeps the truth laws; it stands here because the implementation cites it.
-use Rattle.std.specs.Prelude.{◌≡◌, ℕ, ◌+◌, ◌≤◌, min, max}
 use Rattle.std.proofs.Common.{arith}
 use Rattle.scales.specs.Scales.{Laws}
 use Rattle.scales.specs.Pairs.{below, least, most, one_more, truer_pair, pair_ops}
 use Rattle.scales.specs.declared.pair.Count.{Count}
 use Rattle.scales.specs.declared.pair.Count.TheVariants.{Number, Infinite, Impossible}
-use Rattle.scales.specs.declared.pair.Pair.{Pair}
 
 below_same : (x : Count) → below x x
 below_same (Number a) = omega arith

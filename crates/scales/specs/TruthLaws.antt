@@ -1,5 +1,5 @@
 -- The proof that the three-valued scale keeps the truth laws; it stands here because the implementation cites it.
-use Rattle.std.specs.Prelude.{◌≡◌, ℕ, ◌+◌, max, refl}
+use Rattle.std.specs.Prelude.{◌≡◌, ◌+◌, max, refl}
 use Rattle.std.proofs.Common.{arith}
 use Rattle.scales.specs.Scales.{Laws}
 use Rattle.scales.specs.Truths.{rank, truer, mirror, upper, truth_ops}

@@ -1,8 +1,7 @@
 -- Parts one after another.
-use Rattle.std.proofs.Common.{◌≡◌, ℕ, zero, suc, ◌+◌, ◌-◌, ◌<◌, ◌≤◌, Bool, true, false, cond, eqb, List, [], ◌∷◌, ◌++◌, length, get_or, take, drop, sym, refl, ap, ◌∙◌, subst, add-zero, add-suc, suc-add, arith, length-drop, eq-eqb, ne_eqb, eqb-true}
-use borrow.Author.Tests.{eqb-false}
+use Rattle.std.proofs.Common.{◌≡◌, ℕ, suc, ◌+◌, ◌<◌, ◌≤◌, Bool, true, false, eqb, List, [], ◌∷◌, length, get_or, take, drop, sym, refl, ap, ◌∙◌, subst, add-zero, arith, length-drop, eq-eqb, ne_eqb}
 use Rattle.std.proofs.lemmas.List.{drop_more, drop_all, drop-drop}
-use Rattle.sheet.specs.Parts.{gap, run, parts, part, Part, parts_in}
+use Rattle.sheet.specs.Parts.{gap, run, parts, part, parts_in}
 
 pub gap_more : (sep : ℕ) (s : List ℕ) (n : ℕ) → n < length s → get_or s n 0 ≡ sep → gap sep (drop n s) ≡ suc (gap sep (drop (n + 1) s))
 gap_more sep s n h e = ap (gap sep) (drop_more s n 0 h) ∙ rw (eq-eqb _ _ e) refl

@@ -1,5 +1,5 @@
 -- Bytes cut at a separator: lines at byte 10, words at byte 32.
-use Rattle.std.specs.Prelude.{◌≡◌, ℕ, suc, Bool, true, false, cond, List, [], ◌∷◌, length, take, ◌==◌}
+use Rattle.std.specs.Prelude.{ℕ, suc, Bool, true, false, cond, List, [], ◌∷◌, take, ◌==◌}
 
 -- how many separators stand at the front
 abbrev pub gap : ℕ → List ℕ → ℕ

@@ -1,6 +1,6 @@
-use Rattle.std.proofs.Common.{◌≡◌, ◌<◌, length, set, sym, refl, ap, ◌∙◌, arith}
+use Rattle.std.proofs.Common.{◌<◌, refl, ap, arith}
 use Rattle.std.proofs.lemmas.List.{length-set}
-use Rattle.recorder.specs.Plain.{plain_capacity, plain_steps, capacity_in}
+use Rattle.recorder.specs.Plain.{plain_capacity, capacity_in}
 use Rattle.recorder.proofs.Words.{more}
 use Rattle.recorder.proofs.plain.append.Goals as goal
 

@@ -1,4 +1,4 @@
-use Rattle.std.proofs.Common.{◌≡◌, arith}
+use Rattle.std.proofs.Common.{arith}
 use Rattle.recorder.proofs.Words.{size}
 use Rattle.recorder.proofs.plain.held.Goals as goal
 

@@ -1,4 +1,4 @@
-use Rattle.std.proofs.Common.{◌≡◌, ◌≤◌, length, arith}
+use Rattle.std.proofs.Common.{◌≡◌, arith}
 use Rattle.sheet.specs.Parts.{gap}
 use Rattle.sheet.proofs.Scans.{gap_more, gap_stop, gap_end, parts_none}
 use Rattle.sheet.proofs.words.gap_len.Goals as goal

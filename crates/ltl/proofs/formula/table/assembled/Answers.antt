@@ -1,6 +1,5 @@
-use Rattle.std.proofs.Common.{◌≡◌, ◌≤◌, length, get_or, sym, ap, ◌∙◌, arith}
+use Rattle.std.proofs.Common.{length, get_or, sym, ap, ◌∙◌}
 use Rattle.std.proofs.lemmas.List.{get_or-take}
-use Rattle.ltl.specs.Rows.{fits}
 use Rattle.ltl.specs.declared.row.Row.TheVariants.{Signal}
 use Rattle.ltl.proofs.Rows.{fits_test}
 use Rattle.ltl.proofs.formula.table.assembled.Goals as goal
@@ -17,8 +16,7 @@ invariant_of-result c =
       some_row = h.some_row;
       few_rows = h.few_rows;
       ordered = λ r l.
-        let e = sym (get_or-take (length rows) c.filled.result r (Signal 0) l) ∙ ap (λ x. get_or x r (Signal 0)) c.filled.ensures.begins in
-        rw e (fits_test w r (get_or rows r (Signal 0)) (h.ordered r l));
+          let e = sym (get_or-take (length rows) c.filled.result r (Signal 0) l) ∙ ap (λ x. get_or x r (Signal 0)) c.filled.ensures.begins in
+          rw e (fits_test w r (get_or rows r (Signal 0)) (h.ordered r l));
       watched = h.watched;
     }
-

@@ -1,4 +1,4 @@
-use Rattle.std.proofs.Common.{sym, ap, ◌∙◌, arith}
+use Rattle.std.proofs.Common.{sym, arith}
 use Rattle.std.proofs.lemmas.List.{get_or-take, length-take}
 use Rattle.ltl.specs.declared.row.Row.TheVariants.{Signal}
 use Rattle.ltl.proofs.Rows.{fits_tells}

@@ -1,4 +1,4 @@
-use Rattle.std.proofs.Common.{◌≡◌, ◌*◌, ◌%◌, ◌^◌, ◌||◌, ap, ◌∙◌}
+use Rattle.std.proofs.Common.{◌^◌, ◌||◌, ap, ◌∙◌}
 use Rattle.std.proofs.lemmas.Nat.{one_shl}
 use lib.Bits.{bit_or}
 use Rattle.ltl.specs.Steps.{has}

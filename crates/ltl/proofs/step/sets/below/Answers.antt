@@ -1,4 +1,4 @@
-use Rattle.std.proofs.Common.{◌≡◌, sym, ◌∙◌, arith}
+use Rattle.std.proofs.Common.{arith}
 use Rattle.ltl.proofs.Sets.{below_test, wide, no_high}
 use Rattle.ltl.proofs.step.sets.below.Goals as goal
 

@@ -1,5 +1,5 @@
-use Rattle.std.proofs.Common.{◌≡◌, ◌+◌, ◌-◌, true, ◌∷◌, decimal, sym, refl, ap, ◌∙◌}
-use Rattle.std.proofs.Output.{writes_in_calls_nil, has_written_append, has_written_of_eq}
+use Rattle.std.proofs.Common.{◌+◌, ◌-◌, true, ◌∷◌, decimal, sym, refl}
+use Rattle.std.proofs.Output.{writes_in_calls_nil, has_written_append}
 use Rattle.ltl.specs.Shown.{after_others, signals_from}
 use Rattle.ltl.proofs.Signals.{none_left, with_first, without_first}
 use Rattle.ltl.proofs.step.text.+show_others.Goals as goal

@@ -1,4 +1,4 @@
-use Rattle.std.proofs.Common.{◌≡◌, ◌+◌, ◌-◌, true, ◌∷◌, decimal, sym, refl}
+use Rattle.std.proofs.Common.{◌+◌, ◌-◌, true, decimal, sym, refl}
 use Rattle.std.proofs.Output.{writes_in_calls_nil, has_written_append}
 use Rattle.ltl.specs.Shown.{after_others, signals_from}
 use Rattle.ltl.proofs.Signals.{none_left, with_first, without_first}

@@ -1,4 +1,4 @@
-use Rattle.std.proofs.Common.{◌≡◌, sym, ap, ◌∙◌, arith}
+use Rattle.std.proofs.Common.{sym, ap, ◌∙◌, arith}
 use Rattle.ltl.specs.Steps.{step_at}
 use Rattle.recorder.specs.Plain.{plain_steps}
 use Rattle.recorder.proofs.Words.{past}

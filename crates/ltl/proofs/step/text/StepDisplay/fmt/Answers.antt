@@ -1,4 +1,4 @@
-use Rattle.std.proofs.Common.{◌≡◌, true, [], ◌∷◌, ◌++◌, refl}
+use Rattle.std.proofs.Common.{true, [], ◌∷◌, ◌++◌, refl}
 use Rattle.ltl.specs.Shown.{commas, signals_from}
 use Rattle.std.proofs.Output.{has_written_append}
 use Rattle.ltl.proofs.step.text.StepDisplay.fmt.Goals as goal
