@@ -4,7 +4,7 @@ use Rattle.std.proofs.lemmas.List.{get_or_append_left, get_or-append-add}
 use Rattle.ltl.specs.Tables.{AllFit}
 use Rattle.ltl.specs.Trees.{Tree, not, or, eventually, tree_at, tree_of, trees}
 use Rattle.ltl.specs.declared.row.Row.{Row}
-use Rattle.ltl.specs.declared.row.Row.TheVariants.{Signal, Not, Or, Next, Until, Eventually}
+use Rattle.ltl.specs.declared.row.Row.TheVariants.{Signal}
 use Rattle.ltl.proofs.Trees as ltl_trees
 use Rattle.sheet.specs.declared.token.Unary.{Unary}
 use Rattle.sheet.specs.declared.token.Unary.TheVariants as unary

@@ -3,7 +3,6 @@ use Rattle.std.proofs.Common.{◌≡◌, ℕ, ◌+◌, ◌-◌, ◌<◌, ◌≤�
 use Rattle.std.proofs.lemmas.Bool.{lt-leb}
 use Rattle.std.proofs.lemmas.List.{take_rest}
 use Rattle.ltl.specs.declared.row.Row.{Row}
-use Rattle.ltl.specs.declared.row.Row.TheVariants.{Signal}
 use Rattle.sheet.specs.Parts.{Part, parts}
 use Rattle.sheet.specs.Tokens.{token_of}
 use Rattle.sheet.specs.declared.token.Keyword.{Keyword}

@@ -1,5 +1,5 @@
 -- Question 5 on all the words of a formula.
-use Rattle.std.proofs.Common.{◌≡◌, ℕ, ◌-◌, List, [], ◌∷◌, Some, None, Ok, Err, ap, ◌∙◌}
+use Rattle.std.proofs.Common.{◌≡◌, ℕ, List, [], ◌∷◌, Some, None, Ok, Err, ap, ◌∙◌}
 use Rattle.ltl.specs.declared.row.Row.{Row}
 use Rattle.sheet.specs.Parts.{Part}
 use Rattle.sheet_reader.specs.Drafts.{Got, Whole}

@@ -1,7 +1,7 @@
 -- One cell from those that stand.
-use Rattle.std.proofs.Common.{◌≡◌, ℕ, ◌+◌, ◌<◌, ◌≤◌, cond, leb, List, length, get_or, sym, refl, ap, ◌∙◌, ⊎_elim, arith}
-use Rattle.std.proofs.lemmas.Bool.{cases_lt, le-leb, lt-leb, cond-true, cond-false}
-use Rattle.scales.specs.Scales.{Ops, meet}
+use Rattle.std.proofs.Common.{◌≡◌, ℕ, ◌+◌, ◌<◌, ◌≤◌, cond, leb, List, length, get_or, ap, ◌∙◌, ⊎_elim, arith}
+use Rattle.std.proofs.lemmas.Bool.{cases_lt, le-leb, lt-leb}
+use Rattle.scales.specs.Scales.{Ops}
 use Rattle.ltl.specs.Formulas.{tree}
 use Rattle.values.specs.Grids.{place, Inside, Known, Ready}
 use Rattle.values.specs.Tables.{meaning}

@@ -1,8 +1,8 @@
 -- One cell more, and one column more.
-use Rattle.std.proofs.Common.{◌≡◌, ℕ, ◌+◌, ◌*◌, ◌<◌, ◌≤◌, List, length, get_or, drop, set, sym, refl, ap, ◌∙◌, subst, arith}
+use Rattle.std.proofs.Common.{◌≡◌, ℕ, ◌+◌, ◌*◌, ◌<◌, ◌≤◌, List, length, get_or, set, sym, refl, ◌∙◌, subst, arith}
 use Rattle.std.proofs.lemmas.List.{length-set, drop-set-lt}
 use Rattle.scales.specs.Scales.{Ops}
-use Rattle.values.specs.Grids.{place, Inside, Known, Ready}
+use Rattle.values.specs.Grids.{place, Inside, Ready}
 use Rattle.values.specs.Tables.{meaning, Held, Frame}
 use Rattle.ltl.specs.declared.formula.Formula.{Formula}
 use Rattle.values.specs.declared.grid.Grid.{Grid}

@@ -1,5 +1,5 @@
 -- Where a grid holds a cell, and what is known of the cells while it is filled.
-use Rattle.std.specs.Prelude.{◌≡◌, ℕ, ◌+◌, ◌-◌, ◌*◌, ◌<◌, ◌≤◌, List, length, slice_index_or}
+use Rattle.std.specs.Prelude.{◌≡◌, ℕ, ◌+◌, ◌-◌, ◌*◌, ◌<◌, ◌≤◌, List, slice_index_or}
 
 -- row r, from 0, at position i, from 1, where a row has p positions
 abbrev pub place : ℕ → ℕ → ℕ → ℕ

@@ -36,8 +36,8 @@ fn row_at(formula: &Formula, r: usize) -> Row
 
 /// The value of signal k at position i, where the step is this one.
 fn signal<S: Scale, R: Recording>(recording: &R, step: Step, k: u8, i: usize) -> S
-    requires { set_of step ≡ step_at (steps recording.now) i }
-    ensures { result ≡ signal_value ops (steps recording.now) k i }
+    requires { set_of step ≡ step_at (R.steps recording.now) i }
+    ensures { result ≡ signal_value S.ops (R.steps recording.now) k i }
 {
     if i > recording.len() {
         return S::past();
@@ -49,7 +49,7 @@ fn signal<S: Scale, R: Recording>(recording: &R, step: Step, k: u8, i: usize) ->
 fn ahead<S: Scale>(grid: &mut Grid<S>, n: usize, r: usize, i: usize) -> S
     requires small { n ≤ 4096 }
     requires inside { i ≤ n → Inside (length grid.old.cells.now) grid.old.rows grid.old.positions r (i + 1) }
-    ensures value { result ≡ (if nat_le i n then ops.later (slice_index_or grid.old.cells.now (place grid.old.positions r (i + 1)) ops.no) else ops.«open») }
+    ensures value { result ≡ (if nat_le i n then S.ops.later (slice_index_or grid.old.cells.now (place grid.old.positions r (i + 1)) S.ops.no) else S.ops.«open») }
     ensures kept { grid.new ≡ grid.old }
 {
     if i <= n {
@@ -68,11 +68,11 @@ fn cell<S: Scale, R: Recording>(
     r: usize,
     i: usize,
 ) -> S
-    requires ready { Ready (row_count formula.now) (length (steps recording.now)) (length grid.old.cells.now) grid.old.rows grid.old.positions }
+    requires ready { Ready (row_count formula.now) (length (R.steps recording.now)) (length grid.old.cells.now) grid.old.rows grid.old.positions }
     requires inside { Inside (length grid.old.cells.now) grid.old.rows grid.old.positions r i }
-    requires known { Held ops (steps recording.now) formula.now grid.old i r }
-    requires step { set_of step ≡ step_at (steps recording.now) i }
-    ensures value { result ≡ meaning ops (steps recording.now) formula.now r i }
+    requires known { Held S.ops (R.steps recording.now) formula.now grid.old i r }
+    requires step { set_of step ≡ step_at (R.steps recording.now) i }
+    ensures value { result ≡ meaning S.ops (R.steps recording.now) formula.now r i }
     ensures kept { grid.new ≡ grid.old }
 {
     let n = recording.len();
@@ -104,10 +104,10 @@ fn cell<S: Scale, R: Recording>(
 
 /// Fills column i, where the columns after it stand.
 fn column<S: Scale, R: Recording>(formula: &Formula, recording: &R, grid: &mut Grid<S>, i: usize)
-    requires ready { Ready (row_count formula.now) (length (steps recording.now)) (length grid.old.cells.now) grid.old.rows grid.old.positions }
+    requires ready { Ready (row_count formula.now) (length (R.steps recording.now)) (length grid.old.cells.now) grid.old.rows grid.old.positions }
     requires within { (1 ≤ i) × (i ≤ grid.old.positions) }
-    requires known { Held ops (steps recording.now) formula.now grid.old i 0 }
-    ensures known { Held ops (steps recording.now) formula.now grid.new i (row_count formula.now) }
+    requires known { Held S.ops (R.steps recording.now) formula.now grid.old i 0 }
+    ensures known { Held S.ops (R.steps recording.now) formula.now grid.new i (row_count formula.now) }
     ensures frame { Frame grid.old grid.new }
 {
     let step = recording.step(i);
@@ -119,8 +119,8 @@ fn column<S: Scale, R: Recording>(formula: &Formula, recording: &R, grid: &mut G
 
 /// Fills the grid: every cell of a row and a position holds the row's value there.
 fn fill<S: Scale, R: Recording>(formula: &Formula, recording: &R, grid: &mut Grid<S>)
-    requires { Ready (row_count formula.now) (length (steps recording.now)) (length grid.old.cells.now) grid.old.rows grid.old.positions }
-    ensures cells { Filled ops atleast (width recording.now) (steps recording.now) formula.now grid.old.cells.now grid.new.cells.now }
+    requires { Ready (row_count formula.now) (length (R.steps recording.now)) (length grid.old.cells.now) grid.old.rows grid.old.positions }
+    ensures cells { Filled S.ops S.atleast (R.width recording.now) (R.steps recording.now) formula.now grid.old.cells.now grid.new.cells.now }
     ensures memory { grid.new.cells.ghost_name ≡ grid.old.cells.ghost_name }
 {
     for i in (1..recording.len() + 2).rev() {
@@ -135,8 +135,8 @@ pub fn evaluate<S: Scale, R: Recording>(
     recording: &R,
     cells: &mut [S],
 ) -> Result<(), GridTooSmall>
-    ensures answer { result ≡ evaluated (row_count formula.now) (length (steps recording.now)) (length cells.old) }
-    ensures cells { Left ops atleast (width recording.now) (steps recording.now) formula.now cells.old cells.new result }
+    ensures answer { result ≡ evaluated (row_count formula.now) (length (R.steps recording.now)) (length cells.old) }
+    ensures cells { Left S.ops S.atleast (R.width recording.now) (R.steps recording.now) formula.now cells.old cells.new result }
 {
     let rows = formula.row_count();
     let positions = recording.len() + 1;
@@ -158,8 +158,8 @@ pub fn truths<R: Recording>(
     recording: &R,
     cells: &mut [Truth],
 ) -> Result<(), GridTooSmall>
-    ensures answer { result ≡ evaluated (row_count formula.now) (length (steps recording.now)) (length cells.old) }
-    ensures cells { Left truth_ops truer (width recording.now) (steps recording.now) formula.now cells.old cells.new result }
+    ensures answer { result ≡ evaluated (row_count formula.now) (length (R.steps recording.now)) (length cells.old) }
+    ensures cells { Left truth_ops truer (R.width recording.now) (R.steps recording.now) formula.now cells.old cells.new result }
 {
     evaluate::<Truth, R>(formula, recording, cells)
 }
@@ -170,8 +170,8 @@ pub fn pairs<R: Recording>(
     recording: &R,
     cells: &mut [Pair],
 ) -> Result<(), GridTooSmall>
-    ensures answer { result ≡ evaluated (row_count formula.now) (length (steps recording.now)) (length cells.old) }
-    ensures cells { Left pair_ops truer_pair (width recording.now) (steps recording.now) formula.now cells.old cells.new result }
+    ensures answer { result ≡ evaluated (row_count formula.now) (length (R.steps recording.now)) (length cells.old) }
+    ensures cells { Left pair_ops truer_pair (R.width recording.now) (R.steps recording.now) formula.now cells.old cells.new result }
 {
     evaluate::<Pair, R>(formula, recording, cells)
 }

@@ -1,4 +1,4 @@
-use Rattle.std.proofs.Common.{sym, ap, ◌∙◌, arith, rules}
+use Rattle.std.proofs.Common.{sym, ap, ◌∙◌}
 use Rattle.std.proofs.lemmas.Bool.{le-leb, cond-true}
 use Rattle.values.proofs.Places.{seen}
 use Rattle.values.proofs.grid.columns.ahead.Goals as goal

@@ -1,4 +1,4 @@
-use Rattle.std.proofs.Common.{◌≡◌, sym, refl, ap, ◌∙◌, arith, rules}
+use Rattle.std.proofs.Common.{sym, refl, ap, ◌∙◌, arith}
 use Rattle.ltl.proofs.Trees.{row_law}
 use Rattle.values.proofs.Cells.{look, look_next, look_ahead, next_inside}
 use Rattle.values.proofs.grid.columns.cell.Goals as goal

@@ -1,4 +1,4 @@
-use Rattle.std.proofs.Common.{◌≡◌, length, sym, refl, ap, ◌∙◌, arith, rules}
+use Rattle.std.proofs.Common.{length, arith}
 use Rattle.values.specs.Grids.{Inside}
 use Rattle.values.proofs.Columns.{Stored, frame_trans, frame_stored, held_stored}
 use Rattle.values.proofs.grid.columns.column.Goals as goal

@@ -1,4 +1,4 @@
-use Rattle.std.proofs.Common.{◌≡◌, ℕ, ◌+◌, ◌-◌, ◌<◌, ◌≤◌, length, sym, refl, ap, ◌∙◌, arith, rules}
+use Rattle.std.proofs.Common.{◌≡◌, ℕ, ◌+◌, ◌-◌, ◌<◌, ◌≤◌, length, sym, ◌∙◌, arith}
 use Rattle.ltl.specs.Formulas.{row_count, tree}
 use Rattle.ltl.proofs.Examples.{worked}
 use Rattle.ltl.proofs.Promises.{order_told, open_told, pair_told}

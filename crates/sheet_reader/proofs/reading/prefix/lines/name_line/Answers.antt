@@ -1,4 +1,4 @@
-use Rattle.std.proofs.Common.{◌+◌, ◌-◌, [], ◌∷◌, ◌++◌, length, drop, Ok, sym, refl, ap, ◌∙◌, inr, arith, length-drop}
+use Rattle.std.proofs.Common.{◌+◌, [], ◌∷◌, ◌++◌, length, drop, Ok, sym, refl, ap, ◌∙◌, inr, arith, length-drop}
 use Rattle.std.proofs.lemmas.List.{take_rest}
 use Rattle.std.proofs.lemmas.Result.{err_from_is_err_and}
 use Rattle.sheet.specs.Parts.{parts, part}
