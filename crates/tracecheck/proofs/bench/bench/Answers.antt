@@ -1,4 +1,4 @@
-use Rattle.std.proofs.Common.{◌≡◌, ap}
+use Rattle.std.proofs.Common.{ap}
 use Rattle.ltl.specs.Tables.{Table}
 use Rattle.ltl.specs.Trees.{trees, trees_after, tree_at}
 use Rattle.tracecheck.proofs.bench.bench.Goals as goal

@@ -1,6 +1,6 @@
-use Rattle.std.proofs.Common.{◌≡◌, ◌+◌, ◌≤◌, length, drop, sym, refl, ap, ◌∙◌, arith, length-drop}
+use Rattle.std.proofs.Common.{◌+◌, drop, sym, ap, ◌∙◌, arith, length-drop}
 use Rattle.ltl.specs.Steps.{set_of}
-use Rattle.sheet.specs.Parts.{parts, part}
+use Rattle.sheet.specs.Parts.{parts}
 use Rattle.std.proofs.lemmas.List.{take_rest, drop-drop}
 use Rattle.tracecheck.specs.Lines.{told, named}
 use Rattle.tracecheck.proofs.Named.{named_more, named_stop}

@@ -1,7 +1,5 @@
-use Rattle.std.proofs.Common.{◌≡◌, sym, ◌∙◌}
+use Rattle.std.proofs.Common.{sym, ◌∙◌}
 use Rattle.sheet.specs.Parts.{parts}
-use Rattle.tracecheck.specs.Lines.{line_of}
-use Rattle.tracecheck.specs.declared.lines.Line.TheVariants.{Signals}
 use Rattle.tracecheck.proofs.Named.{line_law, line_blank, line_dash, line_names}
 use Rattle.tracecheck.proofs.lines.said.Goals as goal
 
