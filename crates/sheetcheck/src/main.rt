@@ -17,6 +17,7 @@ use sheet_reader::reading::{Sheet, read};
 use std::alloc::Global;
 use std::fmt::Write;
 use std::io::Read;
+use std::process::ExitCode;
 use std::{env, fs};
 use values::grid::Grid;
 use values::grid::columns::{pairs, truths};
@@ -225,13 +226,13 @@ fn run(rt: &HostRuntime) -> anyhow::Result<Outcome> {
     }
 }
 
-fn main(rt: HostRuntime) -> anyhow::Result<()> {
+fn main(rt: HostRuntime) -> ExitCode {
     match run(&rt) {
-        Ok(Outcome::Judged) => Ok(()),
-        Ok(Outcome::Refused) => Err(anyhow!("refused")),
+        Ok(Outcome::Judged) => ExitCode::SUCCESS,
+        Ok(Outcome::Refused) => ExitCode::FAILURE,
         Err(e) => {
             let _ = rt.eprintln(format_args!("sheetcheck: {e}"));
-            Err(e)
+            ExitCode::FAILURE
         }
     }
 }

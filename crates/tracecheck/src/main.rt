@@ -15,6 +15,7 @@ use scales::truth::Truth;
 use std::alloc::Global;
 use std::fmt::Write;
 use std::io::{BufRead, BufReader};
+use std::process::ExitCode;
 use values::grid::Grid;
 use values::grid::columns::{pairs, truths};
 
@@ -129,10 +130,12 @@ fn run(rt: &HostRuntime) -> anyhow::Result<()> {
     }
 }
 
-fn main(rt: HostRuntime) -> anyhow::Result<()> {
-    let result = run(&rt);
-    if let Err(e) = &result {
-        let _ = rt.eprintln(format_args!("tracecheck: {e}"));
+fn main(rt: HostRuntime) -> ExitCode {
+    match run(&rt) {
+        Ok(()) => ExitCode::SUCCESS,
+        Err(e) => {
+            let _ = rt.eprintln(format_args!("tracecheck: {e}"));
+            ExitCode::FAILURE
+        }
     }
-    result
 }
