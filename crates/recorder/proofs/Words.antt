@@ -16,10 +16,10 @@ pub past : (xs : List ℕ) (at : ℕ) → length xs < at → 0 ≡ step_at xs at
 past xs zero h = absurd (omega arith)
 past xs (suc k) h = sym (get_or_past xs k 0 (omega arith))
 
-get_d_map : (f : ℕ → ℕ) (xs : List ℕ) (k : ℕ) → k < length xs → get_or (map f xs) k 0 ≡ f (get_or xs k 0)
-get_d_map f [] k h = absurd (omega arith)
-get_d_map f (x ∷ xs) zero h = refl
-get_d_map f (x ∷ xs) (suc k) h = get_d_map f xs k (omega arith)
+get_or_map : (f : ℕ → ℕ) (xs : List ℕ) (k : ℕ) → k < length xs → get_or (map f xs) k 0 ≡ f (get_or xs k 0)
+get_or_map f [] k h = absurd (omega arith)
+get_or_map f (x ∷ xs) zero h = refl
+get_or_map f (x ∷ xs) (suc k) h = get_or_map f xs k (omega arith)
 
 pub within : (width held : ℕ) (words : List ℕ) (at : ℕ) → (at ≡ 0 → ⊥) → at ≤ length (steps_in width held words) → step_in width (get_or words (at - 1) 0) ≡ step_at (steps_in width held words) at
 within width held words zero ne h = absurd (ne refl)
@@ -28,7 +28,7 @@ within width held words (suc k) ne h =
     let z : suc k - 1 ≡ k = omega arith in
     let n = size width held words in
     let l = length-take m words in
-    rw z (sym (get_d_map (step_in width) (take m words) k (omega arith) ∙ ap (step_in width) (get_or-take m words k 0 (omega arith))))
+    rw z (sym (get_or_map (step_in width) (take m words) k (omega arith) ∙ ap (step_in width) (get_or-take m words k 0 (omega arith))))
 
 pub more : (width held : ℕ) (words : List ℕ) (n s : ℕ) → n ≡ length (steps_in width held words) → n < capacity_in (length words) → s < 2 ^ width_in width → steps_in width (n + 1) (set words n s) ≡ steps_in width held words ++ s ∷ []
 more width held words n s e h b =

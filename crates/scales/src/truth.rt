@@ -1,5 +1,5 @@
 //! The three-valued scale.
-ghost use Rattle.std.specs.Prelude.{◌≡◌, Some, codes};
+ghost use Rattle.std.specs.Prelude.{Some};
 ghost use Rattle.scales.specs.Truths.{truth_ops, truer};
 ghost use Rattle.scales.specs.Shown.{shown_truth};
 ghost use Rattle.scales.specs.TruthLaws.{truth_laws};

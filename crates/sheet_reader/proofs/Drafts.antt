@@ -8,9 +8,9 @@ use Rattle.sheet_reader.specs.Drafts.{Agree}
 
 stored : (rows : List Row) (n : ℕ) (r : Row) → length rows ≡ 64 → n < 64 → take (n + 1) (set rows n r) ≡ take 64 (take n rows ++ r ∷ [])
 stored rows n r l h =
-    let n-in : n < length rows = omega arith in
+    let n_in : n < length rows = omega arith in
     let long : length (take n rows ++ r ∷ []) ≤ 64 = simp length-append (omega (arith, length-take-le n rows (omega arith))) in
-    rw add-one (take-suc-set rows n r n-in ∙ sym (take_all 64 (take n rows ++ r ∷ []) long))
+    rw add-one (take-suc-set rows n r n_in ∙ sym (take_all 64 (take n rows ++ r ∷ []) long))
 
 passed : (rows : List Row) (n : ℕ) (r : Row) → length rows ≡ 64 → 64 ≤ n → take (n + 1) rows ≡ take 64 (take n rows ++ r ∷ [])
 passed rows n r l h =

@@ -109,10 +109,10 @@ ordered_made width n (one u t) b =
     (subst (λ k. Ordered width (n + k) (rows1 u (top n t) (n + size t))) (sym (length_made n t)) (ordered1 width u (top n t) (n + size t) (top_below n t b)))
 ordered_made width n (two o l r) b =
     let m = n + size l in
-    let below-r = below_more n m (omega arith) r b.1 in
+    let below_r = below_more n m (omega arith) r b.1 in
     let rows = rows2 o (top n l) (top m r) (n + size l + size r) in
-    let last = ordered2 width o (top n l) (top m r) (n + size l + size r) (omega (arith, top_below n l b.0)) (top_below m r below-r) in
-    let right = ordered_append width m (made m r) rows (ordered_made width m r below-r) (subst (λ k. Ordered width (m + k) rows) (sym (length_made m r)) last) in
+    let last = ordered2 width o (top n l) (top m r) (n + size l + size r) (omega (arith, top_below n l b.0)) (top_below m r below_r) in
+    let right = ordered_append width m (made m r) rows (ordered_made width m r below_r) (subst (λ k. Ordered width (m + k) rows) (sym (length_made m r)) last) in
     ordered_append width n (made n l) (made m r ++ rows) (ordered_made width n l b.0) (subst (λ k. Ordered width (n + k) (made m r ++ rows)) (sym (length_made n l)) right)
 
 -- a formula that words spell names only rows that the words name

@@ -183,9 +183,9 @@ module _ (s : List ℕ) (fin : State) (m : Makes s start (lines s) fin) where
       let l = line_of s fin st key.Signal (w ∷ []) m x in
       let d = l.adds in
       let g = l.grown in
-      let name-is : d.name ≡ w = sym (cons_same d.is).0 in
-      let after_is : l.after ≡ with_signal w st = d.makes ∙ ap (λ v. with_signal v st) name-is in
-      let fresh : Fresh s st.names w.text = subst (λ v. Fresh s st.names v.text) name-is d.fresh in
+      let name_is : d.name ≡ w = sym (cons_same d.is).0 in
+      let after_is : l.after ≡ with_signal w st = d.makes ∙ ap (λ v. with_signal v st) name_is in
+      let fresh : Fresh s st.names w.text = subst (λ v. Fresh s st.names v.text) name_is d.fresh in
       let rows : fin.rows ≡ (st.rows ++ Signal st.width ∷ []) ++ g.more_rows = g.rows_are ∙ ap (λ (a : State). a.rows ++ g.more_rows) after_is in (
         names_row s fin l.after st key.Signal w [] (length st.rows) x fresh (omega arith) (ap (λ (a : State). a.names) after_is) g,
         signal_meant fin.width fin.rows fit st.rows g.more_rows st.width rows,
@@ -196,13 +196,13 @@ module _ (s : List ℕ) (fin : State) (m : Makes s start (lines s) fin) where
       let l = line_of s fin st key.Name (w ∷ ws) m x in
       let d = l.adds in
       let g = l.grown in
-      let name-is : d.name ≡ w = sym (cons_same d.is).0 in
-      let rest-is : d.rest ≡ ws = sym (cons_same d.is).1 in
-      let formula-is : d.formula ≡ t = one_formula d.formula t (sym d.spells ∙ subst (λ v. Spelt s st v t) (sym rest-is) p) in
-      let after_is : l.after ≡ with_named w t st = d.makes ∙ ap (λ v. with_named v d.formula st) name-is ∙ ap (λ v. with_named w v st) formula-is in
-      let fresh : Fresh s st.names w.text = subst (λ v. Fresh s st.names v.text) name-is d.fresh in
+      let name_is : d.name ≡ w = sym (cons_same d.is).0 in
+      let rest_is : d.rest ≡ ws = sym (cons_same d.is).1 in
+      let formula_is : d.formula ≡ t = one_formula d.formula t (sym d.spells ∙ subst (λ v. Spelt s st v t) (sym rest_is) p) in
+      let after_is : l.after ≡ with_named w t st = d.makes ∙ ap (λ v. with_named v d.formula st) name_is ∙ ap (λ v. with_named w v st) formula_is in
+      let fresh : Fresh s st.names w.text = subst (λ v. Fresh s st.names v.text) name_is d.fresh in
       let rows : fin.rows ≡ (st.rows ++ made (length st.rows) t) ++ g.more_rows = g.rows_are ∙ ap (λ (a : State). a.rows ++ g.more_rows) after_is in (
-        names_row s fin l.after st key.Name w ws (top (length st.rows) t) x fresh (top_above (length st.rows) t (subst Operated formula-is d.operated)) (ap (λ (a : State). a.names) after_is) g,
+        names_row s fin l.after st key.Name w ws (top (length st.rows) t) x fresh (top_above (length st.rows) t (subst Operated formula_is d.operated)) (ap (λ (a : State). a.names) after_is) g,
         formula_meant fin.width fin.rows fit st.rows g.more_rows t rows,
       )
 
@@ -211,8 +211,8 @@ module _ (s : List ℕ) (fin : State) (m : Makes s start (lines s) fin) where
       let l = line_of s fin st key.Watch ws m x in
       let d = l.adds in
       let g = l.grown in
-      let formula-is : d.formula ≡ t = one_formula d.formula t (sym d.spells ∙ p) in
-      let after_is : l.after ≡ with_watch t st = d.makes ∙ ap (λ v. with_watch v st) formula-is in
+      let formula_is : d.formula ≡ t = one_formula d.formula t (sym d.spells ∙ p) in
+      let after_is : l.after ≡ with_watch t st = d.makes ∙ ap (λ v. with_watch v st) formula_is in
       let rows : fin.rows ≡ (st.rows ++ made (length st.rows) t) ++ g.more_rows = g.rows_are ∙ ap (λ (a : State). a.rows ++ g.more_rows) after_is in
       let watch : fin.watch ≡ Some (top (length st.rows) t) = g.watch_is (top (length st.rows) t) (ap (λ (a : State). a.watch) after_is) in
       let is : w ≡ top (length st.rows) t = cc in

@@ -222,7 +222,10 @@ fn run(rt: &HostRuntime) -> anyhow::Result<Outcome> {
     }
     match fs::read(rt, path.as_str()) {
         Ok(input) => judge(rt, input.as_slice()),
-        Err(e) => Err(anyhow!(format!(in rt.alloc(); "{path}: {e}")?)),
+        Err(e) => {
+            eprintln!(rt; "sheetcheck: {path}: {e}")?;
+            Ok(Outcome::Refused)
+        }
     }
 }
 

@@ -1,5 +1,5 @@
 //! A grid: rows and positions of values of one scale, in memory that is handed in.
-ghost use Rattle.std.specs.Prelude.{◌≡◌, ℕ, ◌*◌, ◌<◌, cond, length, MatchBool, MatchOption, slice_index_or, slice_set};
+ghost use Rattle.std.specs.Prelude.{◌≡◌, ◌*◌, ◌<◌, length, MatchBool, MatchOption, slice_index_or, slice_set};
 ghost use Rattle.values.specs.Grids.{place, Inside};
 
 pub mod columns;

@@ -1,8 +1,8 @@
 //! Making a formula from rows, and reading its rows.
-ghost use Rattle.std.specs.Prelude.{◌≡◌, ℕ, ◌<◌, ◌≤◌, length, take, IfSome, if◌then◌else◌, Some, None, MatchBool, MatchOption, nat_lt, slice_index_or};
+ghost use Rattle.std.specs.Prelude.{◌≡◌, ◌<◌, ◌≤◌, length, take, IfSome, if◌then◌else◌, Some, None, MatchBool, MatchOption, nat_lt, slice_index_or};
 ghost use Rattle.ltl.specs.declared.row.Row.TheVariants.{Signal};
 ghost use Rattle.ltl.specs.Rows.{Fits, fits};
-ghost use Rattle.ltl.specs.Tables.{Table, WellFormed, AllFit, table_from};
+ghost use Rattle.ltl.specs.Tables.{WellFormed, AllFit, table_from};
 ghost use Rattle.ltl.specs.Formulas.{rows_of, row_count, width_of, table};
 
 use super::Formula;

@@ -1,5 +1,5 @@
 //! What can be asked of a step, and how one is made.
-ghost use Rattle.std.specs.Prelude.{◌≡◌, ℕ, ◌^◌, ◌<◌, ◌≤◌, cond, ◌||◌, T, ◌↔◌, MatchOption, ◌==◌, bit_or, nat_lt};
+ghost use Rattle.std.specs.Prelude.{◌≡◌, ℕ, ◌^◌, ◌<◌, ◌≤◌, ◌||◌, T, ◌↔◌, MatchOption, ◌==◌, bit_or, nat_lt};
 ghost use Rattle.ltl.specs.Steps.{has, Below, set_of};
 
 use super::Step;

@@ -1,5 +1,5 @@
 //! The value of every row at every position: backward, column by column.
-ghost use Rattle.std.specs.Prelude.{◌≡◌, ℕ, ◌+◌, ◌<◌, ◌≤◌, length, if◌then◌else◌, nat_le, slice_index_or};
+ghost use Rattle.std.specs.Prelude.{◌≡◌, ◌+◌, ◌<◌, ◌≤◌, length, if◌then◌else◌, nat_le, slice_index_or};
 ghost use Rattle.ltl.specs.Formulas.{rows_of, row_count, width_of};
 ghost use Rattle.scales.specs.Pairs.{pair_ops, truer_pair};
 ghost use Rattle.ltl.specs.Rows.{Fits};

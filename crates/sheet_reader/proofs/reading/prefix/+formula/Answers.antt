@@ -68,11 +68,11 @@ returns-in_ok-a-in-One t c =
     let used = c.in_ok-next.next.used in
     let w = c.in_ok-next.ensures in
     let g = c.in_ok-a-in-One.ensures in
-    let in-s = both_in s used c.in_ok-a-in-One.a.used w.1 g.0 in
+    let in_s = both_in s used c.in_ok-a-in-One.a.used w.1 g.0 in
     let e = word_one sheet names s (drop used s) base (base + used) w.2 (ap operator (sym c.in-One.is) ∙ c.in-Operator.ensures) in
     let k = c.close_one-row.ensures in
     let f = few1 c.in-One.unary in
-    (in-s, omega arith, omega arith, omega arith, got_one e (got_at sheet names s base used w.1 c.in_ok-a-in-One.a.used g.4) k.count k.rows k.last)
+    (in_s, omega arith, omega arith, omega arith, got_one e (got_at sheet names s base used w.1 c.in_ok-a-in-One.a.used g.4) k.count k.rows k.last)
 
 pub close_two-row-requires : goal.close_two-row-requires
 close_two-row-requires t c =
