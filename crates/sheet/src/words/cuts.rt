@@ -1,5 +1,5 @@
 //! Going through the parts of a text.
-ghost use Rattle.std.specs.Prelude.{◌≡◌, ℕ, ◌+◌, ◌≤◌, [], ◌∷◌, ⊤, IfSome, length, MatchOption, not, ◌==◌};
+ghost use Rattle.std.specs.Prelude.{◌≡◌, ℕ, ◌+◌, ◌<◌, ◌≤◌, [], ◌∷◌, ⊤, IfSome, length, MatchOption, not, ◌==◌};
 ghost use Rattle.std.specs.List.{take_while};
 ghost use Rattle.std.specs.Iterator.{YieldsFirstBy, item_count, MakesProgress};
 ghost use Rattle.sheet.specs.Parts.{Part, parts};
@@ -52,7 +52,21 @@ fn run_len(s: &[u8], separator: u8) -> usize
     s.iter().take_while(|b| **b != separator).count()
 }
 
+/// The part that begins at an offset, after separators alone.
+fn part_at<'a>(s: &'a [u8], separator: u8, at: usize) -> Word<'a>
+    requires gap { at ≡ length (take_while (λ b. b == separator) s.now) }
+    requires within { at < length s.now }
+    ensures { FirstPart separator s.now (part_of result) }
+{
+    let end = at + run_len(&s[at..], separator);
+    Word {
+        text: &s[at..end],
+        at,
+    }
+}
+
 /// The first part of `s`, at its offset there.
+#[tactic(auto, using(crate::proofs::Scans::no_part))]
 fn first_part<'a>(s: &'a [u8], separator: u8) -> Option<Word<'a>>
     ensures { MatchOption result ((p : ℕ) → parts separator p s.now ≡ []) (λ w. FirstPart separator s.now (part_of w)) }
 {
@@ -60,12 +74,7 @@ fn first_part<'a>(s: &'a [u8], separator: u8) -> Option<Word<'a>>
     if at >= s.len() {
         return None;
     }
-    let len = run_len(&s[at..], separator);
-    let end = at + len;
-    Some(Word {
-        text: &s[at..end],
-        at,
-    })
+    Some(part_at(s, separator, at))
 }
 
 impl<'a, const SEPARATOR: u8> Iterator for Parts<'a, SEPARATOR> {
