@@ -4,8 +4,7 @@ use Rattle.ltl.specs.Steps.{has, set_of, step_from}
 use Rattle.ltl.specs.declared.step.Step.{Step}
 use Rattle.sheet.specs.Parts.{Part}
 use Rattle.input.specs.Splits.{none, only}
-use Rattle.input.specs.declared.lines.Line.{Line}
-use Rattle.input.specs.declared.lines.Line.TheVariants.{Blank, Signals, Strange}
+use Rattle.input.specs.declared.lines.StrangeWord.{StrangeWord}
 
 -- one signal more, or the offset of a word that names none
 abbrev pub one_more : Option ℕ → ℕ → (ℕ → Result ℕ ℕ) → Result ℕ ℕ
@@ -18,13 +17,18 @@ abbrev pub with_named : (List ℕ → Option ℕ) → ℕ → List Part → Resu
 with_named find s [] = Ok s
 with_named find s (w ∷ ws) = one_more (find w.text) w.at (λ k. with_named find (bit_or s (2 ^ k)) ws)
 
-abbrev pub told : Result ℕ ℕ → Line
-told (Ok s) = Signals (step_from s)
-told (Err at) = Strange at
+abbrev pub told : Result ℕ ℕ → Result Step StrangeWord
+told (Ok s) = Ok (step_from s)
+told (Err at) = Err (record { at = at })
+
+-- the step that a line tells
+abbrev pub telling : Result Step StrangeWord → Result (Option Step) StrangeWord
+telling (Ok s) = Ok (Some s)
+telling (Err w) = Err w
 
 -- no word; `-` alone; or the names of signals
-abbrev pub line_of : (List ℕ → Option ℕ) → List Part → Line
-line_of find ws = cond (none ws) Blank (cond (only (codes "-") ws) (Signals (step_from 0)) (told (with_named find 0 ws)))
+abbrev pub line_of : (List ℕ → Option ℕ) → List Part → Result (Option Step) StrangeWord
+line_of find ws = cond (none ws) (Ok None) (cond (only (codes "-") ws) (Ok (Some (step_from 0))) (telling (told (with_named find 0 ws))))
 
 -- one of the words names signal k
 abbrev pub Names : (List ℕ → Option ℕ) → ℕ → List Part → Type 0

@@ -3,4 +3,5 @@
 
 pub mod lines;
 pub mod places;
+pub mod signals;
 pub mod steps;

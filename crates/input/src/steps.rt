@@ -2,16 +2,14 @@
 ghost use Rattle.std.specs.Prelude.{◌≡◌, ◌+◌, ◌++◌, length, MatchResult};
 ghost use Rattle.sheet.specs.Parts.{parts};
 ghost use Rattle.recorder.specs.Recordings.{record_answer};
-ghost use Rattle.sheet_reader.specs.Readings.{reading_of};
-ghost use Rattle.sheet_reader.specs.Signals.{signal_named};
 ghost use Rattle.input.specs.Lines.{line_of};
 ghost use Rattle.input.specs.Recorded.{step_of, Tells, Stops, Recorded};
 
-use crate::lines::{Line, step_line};
+use crate::lines::step_line;
+use crate::signals::SignalNames;
 use recorder::fault::RecordFault;
 use recorder::recording::Recorder;
-use sheet::words::next_word;
-use sheet_reader::reading::Sheet;
+use sheet::words::{Lines, Word};
 
 /// Why the recording of step lines ended early.
 #[derive(Clone, Copy, Debug)]
@@ -22,53 +20,39 @@ pub enum StepFault {
     Refused { line: usize, fault: RecordFault },
 }
 
-/// Records the step of one line, which stands at an offset.
-fn record_line<R: Recorder>(
+/// Records the step of one line.
+fn record_line<N: SignalNames, R: Recorder>(
     recorder: &mut R,
-    sheet: &Sheet,
-    text: &[u8],
-    line: &[u8],
-    at: usize,
+    names: &N,
+    line: Word,
 ) -> Result<(), StepFault>
-    ensures { MatchResult result (λ _. Tells (line_of (signal_named (reading_of sheet.now) text.now) (parts 32 0 line.now)) × (R.Recording.steps recorder.new ≡ R.Recording.steps recorder.old ++ step_of (line_of (signal_named (reading_of sheet.now) text.now) (parts 32 0 line.now)))) (λ f. (R.Recording.steps recorder.new ≡ R.Recording.steps recorder.old) × Stops (λ s. record_answer (R.Recording.width recorder.new) (R.Recorder.room recorder.new s) (length (R.Recording.steps recorder.new)) s) (line_of (signal_named (reading_of sheet.now) text.now) (parts 32 0 line.now)) at f) }
+    ensures { MatchResult result (λ _. Tells (line_of (N.named names.now) (parts 32 0 line.entry.text.now)) × (R.Recording.steps recorder.new ≡ R.Recording.steps recorder.old ++ step_of (line_of (N.named names.now) (parts 32 0 line.entry.text.now)))) (λ f. (R.Recording.steps recorder.new ≡ R.Recording.steps recorder.old) × Stops (λ s. record_answer (R.Recording.width recorder.new) (R.Recorder.room recorder.new s) (length (R.Recording.steps recorder.new)) s) (line_of (N.named names.now) (parts 32 0 line.entry.text.now)) line.entry.at f) }
 {
-    match step_line(sheet, text, line) {
-        Line::Blank => Ok(()),
-        Line::Strange(word) => Err(StepFault::Strange { line: at, word }),
-        Line::Signals(step) => match recorder.record(step) {
+    let at = line.at;
+    match step_line(names, line.text) {
+        Ok(None) => Ok(()),
+        Ok(Some(step)) => match recorder.record(step) {
             Ok(_) => Ok(()),
             Err(fault) => Err(StepFault::Refused { line: at, fault }),
         },
+        Err(strange) => Err(StepFault::Strange {
+            line: at,
+            word: strange.at,
+        }),
     }
 }
 
-/// Goes through the lines.
-fn recorded<R: Recorder>(
+/// Records the steps that the lines tell, by the names of signals, and ends at the first line that tells none or is
+/// refused.
+pub fn record_lines<N: SignalNames, R: Recorder>(
     recorder: &mut R,
-    sheet: &Sheet,
-    text: &[u8],
+    names: &N,
     lines: &[u8],
 ) -> Result<(), StepFault>
-    ensures { Recorded (signal_named (reading_of sheet.now) text.now) (λ s. record_answer (R.Recording.width recorder.new) (R.Recorder.room recorder.new s) (length (R.Recording.steps recorder.new)) s) (parts 10 0 lines.now) (R.Recording.steps recorder.old) (R.Recording.steps recorder.new) result }
+    ensures { Recorded (N.named names.now) (λ s. record_answer (R.Recording.width recorder.new) (R.Recorder.room recorder.new s) (length (R.Recording.steps recorder.new)) s) (parts 10 0 lines.now) (R.Recording.steps recorder.old) (R.Recording.steps recorder.new) result }
 {
-    let mut from = 0;
-    while let Some(next) = next_word(&lines[from..], b'\n') {
-        let at = from + next.word.at;
-        record_line(recorder, sheet, text, next.word.text, at)?;
-        from += next.used;
+    for line in Lines::new(lines) {
+        record_line(recorder, names, line)?;
     }
     Ok(())
-}
-
-/// Records the steps that the lines tell, by the signals of a sheet that was read from `text`, and ends at the first
-/// line that tells none or is refused.
-pub fn record_lines<R: Recorder>(
-    recorder: &mut R,
-    sheet: &Sheet,
-    text: &[u8],
-    lines: &[u8],
-) -> Result<(), StepFault>
-    ensures { Recorded (signal_named (reading_of sheet.now) text.now) (λ s. record_answer (R.Recording.width recorder.new) (R.Recorder.room recorder.new s) (length (R.Recording.steps recorder.new)) s) (parts 10 0 lines.now) (R.Recording.steps recorder.old) (R.Recording.steps recorder.new) result }
-{
-    recorded(recorder, sheet, text, lines)
 }
