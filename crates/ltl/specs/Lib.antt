@@ -8,6 +8,7 @@ pub mod Cuts
 pub mod Endless
 pub mod Paths
 pub mod Truer
+pub mod Questions
 pub mod Shown
 pub mod Promises
 pub mod Examples

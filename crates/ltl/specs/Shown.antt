@@ -6,7 +6,10 @@ use Rattle.ltl.specs.declared.row.Row.{Row}
 use Rattle.ltl.specs.declared.row.Row.TheVariants.{Signal, Not, Or, Next, Until, Eventually}
 use Rattle.ltl.specs.declared.refusal.Part.{Part}
 use Rattle.ltl.specs.declared.refusal.Part.TheVariants.{Sheet, Recording, Patch, Watch}
+use Rattle.ltl.specs.declared.refusal.Question.{Question}
+use Rattle.ltl.specs.declared.refusal.Question.TheVariants.{SheetLength, SheetBytes, FirstWord, NewName, OneFormula, SheetRows, WatchLine, SignalsBelowWidth, StepRoom, Opening, RowNumber, GridCells}
 use Rattle.ltl.specs.declared.refusal.Refusal.{Refusal}
+use Rattle.ltl.specs.Questions.{number_of, part_of}
 
 -- the signals of a step among the n numbers from k on, in rising order
 unfoldable pub signals_from : ℕ → ℕ → ℕ → List ℕ
@@ -42,7 +45,21 @@ shown_part Recording = codes "recording"
 shown_part Patch = codes "patch"
 shown_part Watch = codes "watch"
 
+abbrev pub shown_question : Question → List ℕ
+shown_question SheetLength = codes "Has the sheet at most 4,096 bytes?"
+shown_question SheetBytes = codes "Is every byte 10 or from 32 to 126?"
+shown_question FirstWord = codes "Is the first word a keyword, after no watch line?"
+shown_question NewName = codes "Has the line a second word that is free, not reserved and at most 16 bytes long?"
+shown_question OneFormula = codes "Is the rest of the line exactly one formula, or nothing on a signal line?"
+shown_question SheetRows = codes "Are there at most 32 signals and 64 rows?"
+shown_question WatchLine = codes "Was there a watch line?"
+shown_question SignalsBelowWidth = codes "Are all signals below W?"
+shown_question StepRoom = codes "Has the step room?"
+shown_question Opening = codes "Is W from 1 to 32, and K at least 1?"
+shown_question RowNumber = codes "Is the row below R?"
+shown_question GridCells = codes "Has each grid at least R x (n + 1) cells?"
+
 -- question 9 (recording), place 0
 abbrev pub shown_refusal : Refusal → List ℕ
 shown_refusal r =
-    codes "question " ++ (decimal r.question ++ (codes " (" ++ (shown_part r.part ++ (codes "), place " ++ decimal r.place))))
+    codes "question " ++ (decimal (number_of r.question) ++ (codes " (" ++ (shown_part (part_of r.question) ++ (codes "), place " ++ decimal r.place))))
