@@ -5,24 +5,18 @@ use Rattle.std.proofs.lemmas.Bool.{true≢false, or_cases, or_left, or_right, eq
 use Rattle.ltl.specs.Steps.{has, set_of, step_from}
 use Rattle.ltl.specs.declared.step.Step.{Step}
 use Rattle.ltl.proofs.Sets.{has_or, has_one, has_none}
-use Rattle.sheet.specs.Parts.{Part, part}
+use Rattle.sheet.specs.Parts.{Part}
 use Rattle.input.specs.Splits.{none, only}
-use Rattle.input.specs.Lines.{one_more, with_named, told, line_of, Names, Told}
-use Rattle.input.specs.declared.lines.Line.{Line}
-use Rattle.input.specs.declared.lines.Line.TheVariants.{Blank, Signals, Strange}
+use Rattle.input.specs.Lines.{one_more, with_named, told, telling, line_of, Names, Told}
+use Rattle.input.specs.declared.lines.StrangeWord.{StrangeWord}
 
-module _ (find : List ℕ → Option ℕ) where
-  -- one word more
-  pub named_more : (s k : ℕ) (t : List ℕ) (at : ℕ) (ws : List Part) → find t ≡ Some k → with_named find s (part t at ∷ ws) ≡ with_named find (bit_or s (2 ^ k)) ws
-  named_more s k t at ws e = rw e
-
-  pub named_stop : (s : ℕ) (t : List ℕ) (at : ℕ) (ws : List Part) → find t ≡ None → with_named find s (part t at ∷ ws) ≡ Err at
-  named_stop s t at ws e = rw e
+abbrev Line : Type 0
+Line = Result (Option Step) StrangeWord
 
 abbrev bits_in : Line → ℕ
-bits_in Blank = 0
-bits_in (Signals s) = set_of s
-bits_in (Strange at) = 0
+bits_in (Ok None) = 0
+bits_in (Ok (Some s)) = set_of s
+bits_in (Err w) = 0
 
 -- the set that is read has the signals of the one before and those that the words name
 abbrev Has : (List ℕ → Option ℕ) → ℕ → ℕ → List Part → ℕ → Type 0
@@ -32,7 +26,7 @@ empty_set : (k : ℕ) → has 0 k ≡ true → ⊥
 empty_set k e = true≢false (sym e ∙ has_none 0 0 k (omega arith) (omega arith))
 
 abbrev Law : (List ℕ → Option ℕ) → List Part → Line → Type 0
-Law find ws l = (s : Step) → l ≡ Signals s → Told find ws s
+Law find ws l = (s : Step) → l ≡ Ok (Some s) → Told find ws s
 
 module _ (find : List ℕ → Option ℕ) where
   one_word : (s v : ℕ) (w : Part) (ws : List Part) (k : ℕ) → ((s : ℕ) → with_named find s ws ≡ Ok v → Has find s v ws k) → (o : Option ℕ) → find w.text ≡ o → one_more o w.at (λ j. with_named find (bit_or s (2 ^ j)) ws) ≡ Ok v → Has find s v (w ∷ ws) k
@@ -58,7 +52,7 @@ module _ (find : List ℕ → Option ℕ) where
   members s v [] k e = let z : s ≡ v = cc in ((λ h. inl (rw z h)), ⊎_elim (λ h. rw (← z) h) (λ n. absurd n))
   members s v (w ∷ ws) k e = one_word s v w ws k (λ s' e'. members s' v ws k e') (find w.text) refl e
 
-  from_names : (ws : List Part) (r : Result ℕ ℕ) → with_named find 0 ws ≡ r → only (codes "-") ws ≡ false → Law find ws (told r)
+  from_names : (ws : List Part) (r : Result ℕ ℕ) → with_named find 0 ws ≡ r → only (codes "-") ws ≡ false → Law find ws (telling (told r))
   from_names ws (Ok v) q d s e =
       let z : v ≡ set_of s = ap bits_in e in
       record {
@@ -67,7 +61,7 @@ module _ (find : List ℕ → Option ℕ) where
       }
   from_names ws (Err at) q d s e = absurd (true≢false (cc))
 
-  by_case : (ws : List Part) (a b : Bool) → only (codes "-") ws ≡ b → Law find ws (cond a Blank (cond b (Signals (step_from 0)) (told (with_named find 0 ws))))
+  by_case : (ws : List Part) (a b : Bool) → only (codes "-") ws ≡ b → Law find ws (cond a (Ok None) (cond b (Ok (Some (step_from 0))) (telling (told (with_named find 0 ws)))))
   by_case ws true b q s e = absurd (true≢false (cc))
   by_case ws false true q s e = record { dash = λ h. sym (ap bits_in e); named = λ h. absurd (true≢false (sym q ∙ h)) }
   by_case ws false false q s e = from_names ws (with_named find 0 ws) refl q s e
@@ -75,13 +69,3 @@ module _ (find : List ℕ → Option ℕ) where
   -- a line that tells a step names its signals and no others
   pub line_law : (ws : List Part) → Law find ws (line_of find ws)
   line_law ws = by_case ws (none ws) (only (codes "-") ws) refl
-
-  -- the three kinds of line
-  pub line_blank : (ws : List Part) → none ws ≡ true → Blank ≡ line_of find ws
-  line_blank ws e = rw e
-
-  pub line_dash : (ws : List Part) (x : Step) → none ws ≡ false → only (codes "-") ws ≡ true → set_of x ≡ 0 → Signals x ≡ line_of find ws
-  line_dash ws x e d z = rw (e, d) (ap (λ s. Signals (step_from s)) z)
-
-  pub line_names : (ws : List Part) → none ws ≡ false → only (codes "-") ws ≡ false → told (with_named find 0 ws) ≡ line_of find ws
-  line_names ws e d = rw (e, d)

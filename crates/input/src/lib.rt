@@ -3,5 +3,4 @@
 
 pub mod lines;
 pub mod places;
-pub mod signals;
 pub mod steps;

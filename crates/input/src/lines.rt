@@ -1,12 +1,11 @@
 //! The parts of an input, and the lines that tell the steps: names of signals, or `-` alone for none.
-ghost use Rattle.std.specs.Prelude.{◌≡◌, ℕ, ◌+◌, ◌^◌, ◌≤◌, length, Some, None, Ok, MatchOption, bit_or};
-ghost use Rattle.ltl.specs.Steps.{set_of};
+ghost use Rattle.std.specs.Prelude.{◌≡◌, ◌≤◌, length, Some, Ok, codes};
 ghost use Rattle.sheet.specs.Parts.{parts};
 ghost use Rattle.input.specs.Splits.{none, only, split_of};
 ghost use Rattle.input.specs.Lines.{with_named, told, line_of, Told};
 
-use crate::signals::SignalNames;
 use ltl::step::Step;
+use sheet::signals::SignalNames;
 use sheet::words::{Lines, Words};
 use std::error::Error;
 use std::fmt;
@@ -67,6 +66,7 @@ fn named_signals<N: SignalNames>(names: &N, line: &[u8]) -> Result<Step, Strange
 
 /// Splits an input at the first line whose only word is `steps`: what stands before is the sheet, and
 /// what stands after it tells the steps. Without such a line all is the sheet.
+#[tactic(auto, using(sheet::proofs::Texts::parts_inside))]
 pub fn split_input(input: &[u8]) -> Split
     ensures is { result ≡ split_of input.now }
     ensures within { (result.sheet ≤ result.steps) × (result.steps ≤ length input.now) }
@@ -86,6 +86,7 @@ pub fn split_input(input: &[u8]) -> Split
 }
 
 /// The step that a step line tells, by the names of signals: none where the line is blank.
+#[tactic(auto, using(crate::proofs::Named::line_law))]
 pub fn step_line<N: SignalNames>(names: &N, line: &[u8]) -> Result<Option<Step>, StrangeWord>
     ensures is { result ≡ line_of (N.named names.now) (parts 32 0 line.now) }
     ensures signals { (s : Step) → result ≡ Ok (Some s) → Told (N.named names.now) (parts 32 0 line.now) s }

@@ -19,6 +19,7 @@ fn first_line_len(s: &[u8]) -> usize
     s.iter().take_while(|b| **b != b'\n').count()
 }
 
+#[tactic(auto, using(crate::proofs::Around::around_is))]
 /// The offsets of the line in which a place lies; a place past the end is the end.
 pub fn line_around(s: &[u8], place: usize) -> Range<usize>
     ensures is { result ≡ around s.now place }

@@ -6,9 +6,9 @@ ghost use Rattle.input.specs.Lines.{line_of};
 ghost use Rattle.input.specs.Recorded.{step_of, Tells, Stops, Recorded};
 
 use crate::lines::step_line;
-use crate::signals::SignalNames;
 use recorder::fault::RecordFault;
 use recorder::recording::Recorder;
+use sheet::signals::SignalNames;
 use sheet::words::{Lines, Word};
 
 /// Why the recording of step lines ended early.
@@ -44,6 +44,7 @@ fn record_line<N: SignalNames, R: Recorder>(
 
 /// Records the steps that the lines tell, by the names of signals, and ends at the first line that tells none or is
 /// refused.
+#[tactic(auto, using(crate::proofs::Taken::none_taken, crate::proofs::Taken::one_taken, crate::proofs::Taken::all_taken, crate::proofs::Taken::stopped))]
 pub fn record_lines<N: SignalNames, R: Recorder>(
     recorder: &mut R,
     names: &N,

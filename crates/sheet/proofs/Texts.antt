@@ -9,7 +9,8 @@ pub record Inside (p : ℕ) (bs : List ℕ) (w : Part) : Type 0 where
   pub within : skipped + length w.text ≤ length bs
   pub text_is : w.text ≡ take (length w.text) (drop skipped bs)
 
-abbrev Each : (Part → Type 0) → List Part → Type 0
+-- P holds of each of the parts
+abbrev pub Each : (Part → Type 0) → List Part → Type 0
 Each P [] = Unit {0}
 Each P (w ∷ ws) = P w × Each P ws
 
@@ -38,10 +39,14 @@ step sep p b bs inside true ih = all_further p b bs (parts_in sep false (suc p) 
 step sep p b bs true false ih = all_further p b bs (parts_in sep true (suc p) bs) (ih true)
 step sep p b bs false false ih = (here sep p (b ∷ bs), all_further p b bs (parts_in sep true (suc p) bs) (ih true))
 
+-- each part lies in the bytes
 all_inside : (sep : ℕ) (inside : Bool) (p : ℕ) (bs : List ℕ) → Each (Inside p bs) (parts_in sep inside p bs)
 unfolding parts_in
 all_inside sep inside p [] = tt
 all_inside sep inside p (b ∷ bs) = step sep p b bs inside (eqb b sep) (λ i. all_inside sep i (suc p) bs)
+
+pub parts_inside : (sep p : ℕ) (bs : List ℕ) → Each (Inside p bs) (parts sep p bs)
+parts_inside sep p bs = all_inside sep false p bs
 
 each_at : (P : Part → Type 0) (xs : List Part) (w : Part) (ys : List Part) → Each P (xs ++ w ∷ ys) → P w
 each_at P [] w ys e = e.0

@@ -1,4 +1,4 @@
-//! What the words of step lines name.
+//! What words name.
 ghost use Rattle.std.specs.Prelude.{◌≡◌, ℕ, ◌<◌, List, Option, IfSome};
 
 /// The names of signals.
