@@ -2,16 +2,16 @@
 #![tactic(auto)]
 
 mod bench;
-mod lines;
+mod signals;
 
 use anyhow::anyhow;
 use bench::bench;
-use lines::{Line, read_line};
 use ltl::formula::Formula;
 use recorder::plain::PlainRecorder;
 use recorder::recording::{Recorder, Recording};
 use scales::pair::{Count, Pair};
 use scales::truth::Truth;
+use signals::read_line;
 use std::alloc::Global;
 use std::fmt::Write;
 use std::io::{BufRead, BufReader};
@@ -30,17 +30,20 @@ fn record_line<R: Recorder>(
     number: usize,
 ) -> anyhow::Result<()> {
     match read_line(line.as_bytes()) {
-        Line::Blank => Ok(()),
-        Line::Strange(at) => Err(anyhow!(format!(in heap;
-            "line {number}: the word at {at} is not r, g, or - alone"
-        )?)),
-        Line::Signals(step) => match recorder.record(step) {
+        Ok(None) => Ok(()),
+        Ok(Some(step)) => match recorder.record(step) {
             Ok(_) => Ok(()),
             Err(fault) => {
                 let refusal = fault.refusal();
                 Err(anyhow!(format!(in heap; "line {number}: {refusal}: {fault}")?))
             }
         },
+        Err(strange) => {
+            let at = strange.at;
+            Err(anyhow!(format!(in heap;
+                "line {number}: the word at {at} is not r, g, or - alone"
+            )?))
+        }
     }
 }
 
