@@ -6,10 +6,11 @@ mod signals;
 
 use anyhow::anyhow;
 use bench::bench;
+use heap_grid::cells::filled;
 use ltl::formula::Formula;
 use recorder::plain::PlainRecorder;
 use recorder::recording::{Recorder, Recording};
-use scales::pair::{Count, Pair};
+use scales::pair::Pair;
 use scales::truth::Truth;
 use signals::read_line;
 use std::alloc::Global;
@@ -17,7 +18,6 @@ use std::fmt::Write;
 use std::io::{BufRead, BufReader};
 use std::process::ExitCode;
 use values::grid::Grid;
-use values::grid::columns::{pairs, truths};
 
 /// The most steps that the program keeps.
 const STEPS: usize = 4096;
@@ -66,16 +66,12 @@ fn rows_at(
     text: &mut String,
     heap: Global,
     formula: &Formula,
-    values: &mut Grid<Truth>,
-    counts: &mut Grid<Pair>,
+    values: &Grid<Truth>,
+    counts: &Grid<Pair>,
     i: usize,
 ) -> anyhow::Result<()> {
-    for r in 0..formula.row_count() {
-        let (Some(row), Some(value), Some(pair)) = (
-            formula.row(r),
-            values.get(r, i),
-            counts.get(r, i),
-        ) else {
+    for (r, row) in formula.rows().iter().enumerate() {
+        let (Some(value), Some(pair)) = (values.get(r, i), counts.get(r, i)) else {
             return Err(anyhow!("a row has no cell"));
         };
         let row = format!(in heap; "{row}")?;
@@ -90,28 +86,24 @@ fn judged<R: Recording>(heap: Global, formula: &Formula, recording: &R) -> anyho
     let rows = formula.row_count();
     let n = recording.len();
     let positions = n.saturating_add(1);
-    let cells = rows.saturating_mul(positions);
-    let mut values = vec![in heap; Truth::False; cells]?;
-    let blank = Pair::new(Count::Infinite, Count::Infinite);
-    let mut counts = vec![in heap; blank; cells]?;
-    truths(formula, recording, values.as_mut_slice())?;
-    pairs(formula, recording, counts.as_mut_slice())?;
-    let mut values = Grid::new(values.as_mut_slice(), rows, positions);
-    let mut counts = Grid::new(counts.as_mut_slice(), rows, positions);
+    let mut values = filled(heap, formula, recording)?;
+    let mut counts = filled(heap, formula, recording)?;
+    let values = Grid::new(values.as_mut_slice(), rows, positions);
+    let counts = Grid::new(counts.as_mut_slice(), rows, positions);
     let mut text = String::new(heap);
     let watch = formula.watch();
     writeln!(
         text,
         "always implies r eventually g: signal 0 is r, signal 1 is g, row {watch} is watched"
     )?;
-    for i in 1..positions.saturating_add(1) {
+    for i in 1..=positions {
         if i <= n {
             let step = recording.step(i);
             writeln!(text, "position {i}, step {step}")?;
         } else {
             writeln!(text, "position {i}, after the last step")?;
         }
-        rows_at(&mut text, heap, formula, &mut values, &mut counts, i)?;
+        rows_at(&mut text, heap, formula, &values, &counts, i)?;
     }
     writeln!(text, "steps accepted: {n}")?;
     Ok(text)
@@ -122,15 +114,12 @@ fn run(rt: &HostRuntime) -> anyhow::Result<()> {
     let heap = rt.alloc();
     let formula = bench();
     let mut words = vec![in heap; 0u32; STEPS]?;
-    match PlainRecorder::open(formula.width(), words.as_mut_slice()) {
-        Ok(mut recorder) => {
-            record_lines(rt, &mut recorder)?;
-            let text = judged(heap, &formula, &recorder)?;
-            rt.print(text.as_str())?;
-            Ok(())
-        }
-        Err(refused) => Err(refused.fault.into()),
-    }
+    let mut recorder = PlainRecorder::open(formula.width(), words.as_mut_slice())
+        .map_err(|refused| refused.fault)?;
+    record_lines(rt, &mut recorder)?;
+    let text = judged(heap, &formula, &recorder)?;
+    rt.print(text.as_str())?;
+    Ok(())
 }
 
 fn main(rt: HostRuntime) -> ExitCode {
