@@ -1,25 +1,34 @@
 -- Parts one after another.
-use Rattle.std.proofs.Common.{◌≡◌, ℕ, suc, ◌+◌, ◌<◌, ◌≤◌, Bool, true, false, eqb, List, [], ◌∷◌, length, get_or, take, drop, sym, refl, ap, ◌∙◌, subst, add-zero, arith, length-drop, eq-eqb, ne_eqb}
-use Rattle.std.proofs.lemmas.List.{drop_more, drop_all, drop-drop}
+use Rattle.std.specs.Prelude.{not, ◌==◌}
+use Rattle.std.specs.List.{take_while, prefix_len}
+use Rattle.std.proofs.lemmas.List.Folds.{length-prefix_len}
+use Rattle.std.proofs.Common.{◌≡◌, ℕ, suc, ◌+◌, ◌<◌, ◌≤◌, Bool, true, false, eqb, List, [], ◌∷◌, length, take, drop, sym, refl, ap, ◌∙◌, subst, add-zero, arith, length-drop}
+use Rattle.std.proofs.lemmas.List.{drop_all, drop-drop}
 use Rattle.sheet.specs.Parts.{gap, run, parts, part, parts_in}
 
-pub gap_more : (sep : ℕ) (s : List ℕ) (n : ℕ) → n < length s → get_or s n 0 ≡ sep → gap sep (drop n s) ≡ suc (gap sep (drop (n + 1) s))
-gap_more sep s n h e = ap (gap sep) (drop_more s n 0 h) ∙ rw (eq-eqb _ _ e) refl
+gap_front : (sep b : ℕ) (bs : List ℕ) (t : Bool) → eqb b sep ≡ t → prefix_len (λ c. c == sep) bs ≡ gap sep bs → prefix_len (λ c. c == sep) (b ∷ bs) ≡ gap sep (b ∷ bs)
+gap_front sep b bs true e h = rw e (omega (arith, h))
+gap_front sep b bs false e h = rw e refl
 
-pub gap_stop : (sep : ℕ) (s : List ℕ) (n : ℕ) → n < length s → (get_or s n 0 ≡ sep → ⊥) → gap sep (drop n s) ≡ 0
-gap_stop sep s n h e = ap (gap sep) (drop_more s n 0 h) ∙ rw (ne_eqb _ _ e) refl
+gap_prefix : (sep : ℕ) (s : List ℕ) → prefix_len (λ c. c == sep) s ≡ gap sep s
+gap_prefix sep [] = refl
+gap_prefix sep (b ∷ bs) = gap_front sep b bs (eqb b sep) refl (gap_prefix sep bs)
 
-pub gap_end : (sep : ℕ) (s : List ℕ) (n : ℕ) → length s ≤ n → gap sep (drop n s) ≡ 0
-gap_end sep s n h = ap (gap sep) (drop_all n s h)
+-- the gap is as many separators as stand at the front
+pub gap_is : (sep : ℕ) (s : List ℕ) → length (take_while (λ c. c == sep) s) ≡ gap sep s
+gap_is sep s = length-prefix_len (λ c. c == sep) s ∙ gap_prefix sep s
 
-pub run_more : (sep : ℕ) (s : List ℕ) (n : ℕ) → n < length s → (get_or s n 0 ≡ sep → ⊥) → run sep (drop n s) ≡ suc (run sep (drop (n + 1) s))
-run_more sep s n h e = ap (run sep) (drop_more s n 0 h) ∙ rw (ne_eqb _ _ e) refl
+run_front : (sep b : ℕ) (bs : List ℕ) (t : Bool) → eqb b sep ≡ t → prefix_len (λ c. not (c == sep)) bs ≡ run sep bs → prefix_len (λ c. not (c == sep)) (b ∷ bs) ≡ run sep (b ∷ bs)
+run_front sep b bs true e h = rw e refl
+run_front sep b bs false e h = rw e (omega (arith, h))
 
-pub run_stop : (sep : ℕ) (s : List ℕ) (n : ℕ) → n < length s → get_or s n 0 ≡ sep → run sep (drop n s) ≡ 0
-run_stop sep s n h e = ap (run sep) (drop_more s n 0 h) ∙ rw (eq-eqb _ _ e) refl
+run_prefix : (sep : ℕ) (s : List ℕ) → prefix_len (λ c. not (c == sep)) s ≡ run sep s
+run_prefix sep [] = refl
+run_prefix sep (b ∷ bs) = run_front sep b bs (eqb b sep) refl (run_prefix sep bs)
 
-pub run_end : (sep : ℕ) (s : List ℕ) (n : ℕ) → length s ≤ n → run sep (drop n s) ≡ 0
-run_end sep s n h = ap (run sep) (drop_all n s h)
+-- and the run as many other bytes
+pub run_is : (sep : ℕ) (s : List ℕ) → length (take_while (λ c. not (c == sep)) s) ≡ run sep s
+run_is sep s = length-prefix_len (λ c. not (c == sep)) s ∙ run_prefix sep s
 
 abbrev GapOf : ℕ → ℕ → List ℕ → Type 0
 GapOf sep p s = parts sep p s ≡ parts sep (p + gap sep s) (drop (gap sep s) s)

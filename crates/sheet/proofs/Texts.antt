@@ -24,7 +24,7 @@ run_at : (sep b : ℕ) (bs : List ℕ) (t : Bool) → eqb b sep ≡ t → run se
 run_at sep b bs true e h = rw e (omega arith)
 run_at sep b bs false e h = rw e (omega arith)
 
-run_within : (sep : ℕ) (bs : List ℕ) → run sep bs ≤ length bs
+pub run_within : (sep : ℕ) (bs : List ℕ) → run sep bs ≤ length bs
 run_within sep [] = omega arith
 run_within sep (b ∷ bs) = run_at sep b bs (eqb b sep) refl (run_within sep bs)
 

@@ -1,0 +1,75 @@
+//! Going through the parts of a text.
+ghost use Rattle.std.specs.Prelude.{◌≡◌, ℕ, [], length, MatchOption, not, ◌==◌};
+ghost use Rattle.std.specs.List.{take_while};
+ghost use Rattle.std.specs.Iterator.{YieldsFirstBy, item_count};
+ghost use Rattle.sheet.specs.Parts.{parts};
+ghost use Rattle.sheet.specs.Cuts.{part_of, parts_left, end_of, FirstPart};
+
+use super::{Parts, Word};
+
+impl<'a, const SEPARATOR: u8> Parts<'a, SEPARATOR> {
+    /// The parts of a text.
+    pub fn new(text: &'a [u8]) -> Parts<'a, SEPARATOR>
+        ensures parts { parts_left result ≡ parts SEPARATOR 0 text.now }
+        ensures end { end_of result ≡ length text.now }
+    {
+        Parts { rest: text, at: 0 }
+    }
+
+    /// The offset where the text ends.
+    pub fn end(&self) -> usize
+        ensures { result ≡ end_of self.now }
+    {
+        self.at + self.rest.len()
+    }
+}
+
+/// How many separators stand at the front.
+fn gap_len(s: &[u8], separator: u8) -> usize
+    ensures { result ≡ length (take_while (λ b. b == separator) s.now) }
+{
+    s.iter().take_while(|b| **b == separator).count()
+}
+
+/// How many other bytes stand at the front.
+fn run_len(s: &[u8], separator: u8) -> usize
+    ensures { result ≡ length (take_while (λ b. not (b == separator)) s.now) }
+{
+    s.iter().take_while(|b| **b != separator).count()
+}
+
+/// The first part of `s`, at its offset there.
+fn first_part<'a>(s: &'a [u8], separator: u8) -> Option<Word<'a>>
+    ensures { MatchOption result ((p : ℕ) → parts separator p s.now ≡ []) (λ w. FirstPart separator s.now (part_of w)) }
+{
+    let at = gap_len(s, separator);
+    if at >= s.len() {
+        return None;
+    }
+    let len = run_len(&s[at..], separator);
+    let end = at + len;
+    Some(Word {
+        text: &s[at..end],
+        at,
+    })
+}
+
+impl<'a, const SEPARATOR: u8> Iterator for Parts<'a, SEPARATOR> {
+    type Item = Word<'a>;
+
+    ghost next_gives = { YieldsFirstBy part_of parts_left };
+
+    ghost remaining = { item_count parts_left };
+
+    fn next(&mut self) -> Option<Word<'a>> {
+        let word = first_part(self.rest, SEPARATOR)?;
+        let at = self.at + word.at;
+        let used = word.at + word.text.len();
+        self.at += used;
+        self.rest = &self.rest[used..];
+        Some(Word {
+            text: word.text,
+            at,
+        })
+    }
+}
