@@ -19,7 +19,7 @@ pub data Sort : Type 0 where
 abbrev pub shown : Token → Sort
 shown (token.Operator o) = operator o
 shown (token.Keyword k) = keyword k
-shown (token.Name text p) = name text.now p
+shown (token.Name w) = name w.text.now w.at
 
 -- what stands beside the first equal word of a table
 abbrev pub beside : {A : Type 0} → List ℕ → List (List ℕ × A) → Option A

@@ -2,7 +2,6 @@
 ghost use Rattle.std.specs.Prelude.{◌≡◌};
 ghost use Rattle.sheet.specs.Tokens.{shown, token_of, operator_of, keyword_of, reserved};
 
-use crate::text::same;
 use crate::words::Word;
 
 /// The operators that take one formula.
@@ -37,67 +36,55 @@ pub enum Keyword {
     Watch,
 }
 
-/// A word by what it is. A name is that part of the text itself, with its offset.
+/// A word by what it is. A name is the word itself: that part of the text, with its offset.
 #[derive(Clone, Copy, Debug)]
 pub enum Token<'a> {
     Operator(Operator),
     Keyword(Keyword),
-    Name { text: &'a [u8], at: usize },
+    Name(Word<'a>),
 }
 
 /// The operator that a word is, if it is one.
 fn operator_of(text: &[u8]) -> Option<Operator>
     ensures { result ≡ operator_of text.now }
 {
-    if same(text, b"not") {
-        Some(Operator::One(Unary::Not))
-    } else if same(text, b"next") {
-        Some(Operator::One(Unary::Next))
-    } else if same(text, b"eventually") {
-        Some(Operator::One(Unary::Eventually))
-    } else if same(text, b"always") {
-        Some(Operator::One(Unary::Always))
-    } else if same(text, b"or") {
-        Some(Operator::Two(Binary::Or))
-    } else if same(text, b"and") {
-        Some(Operator::Two(Binary::And))
-    } else if same(text, b"implies") {
-        Some(Operator::Two(Binary::Implies))
-    } else if same(text, b"until") {
-        Some(Operator::Two(Binary::Until))
-    } else {
-        None
-    }
+    let operator = match text {
+        b"not" => Operator::One(Unary::Not),
+        b"next" => Operator::One(Unary::Next),
+        b"eventually" => Operator::One(Unary::Eventually),
+        b"always" => Operator::One(Unary::Always),
+        b"or" => Operator::Two(Binary::Or),
+        b"and" => Operator::Two(Binary::And),
+        b"implies" => Operator::Two(Binary::Implies),
+        b"until" => Operator::Two(Binary::Until),
+        _ => return None,
+    };
+    Some(operator)
 }
 
 /// The keyword that a word is, if it is one.
 fn keyword_of(text: &[u8]) -> Option<Keyword>
     ensures { result ≡ keyword_of text.now }
 {
-    if same(text, b"signal") {
-        Some(Keyword::Signal)
-    } else if same(text, b"name") {
-        Some(Keyword::Name)
-    } else if same(text, b"watch") {
-        Some(Keyword::Watch)
-    } else {
-        None
+    match text {
+        b"signal" => Some(Keyword::Signal),
+        b"name" => Some(Keyword::Name),
+        b"watch" => Some(Keyword::Watch),
+        _ => None,
     }
 }
 
-/// What a word is.
-pub fn classify<'a>(word: Word<'a>) -> Token<'a>
-    ensures { shown result ≡ token_of word.entry.text.now word.entry.at }
-{
-    if let Some(operator) = operator_of(word.text) {
-        return Token::Operator(operator);
-    }
-    if let Some(keyword) = keyword_of(word.text) {
-        return Token::Keyword(keyword);
-    }
-    Token::Name {
-        text: word.text,
-        at: word.at,
+impl<'a> From<Word<'a>> for Token<'a> {
+    ghost from_gives = { λ w t. shown t ≡ token_of w.text.now w.at };
+
+    fn from(word: Word<'a>) -> Token<'a> {
+        if let Some(operator) = operator_of(word.text) {
+            Token::Operator(operator)
+        } else if let Some(keyword) = keyword_of(word.text) {
+            Token::Keyword(keyword)
+        } else {
+            Token::Name(word)
+        }
     }
 }
 
@@ -105,8 +92,5 @@ pub fn classify<'a>(word: Word<'a>) -> Token<'a>
 pub fn is_reserved(text: &[u8]) -> bool
     ensures { result ≡ reserved text.now }
 {
-    operator_of(text).is_some()
-        || keyword_of(text).is_some()
-        || same(text, b"steps")
-        || same(text, b"-")
+    operator_of(text).is_some() || keyword_of(text).is_some() || matches!(text, b"steps" | b"-")
 }

@@ -1,11 +1,11 @@
 //! Going through the parts of a text.
-ghost use Rattle.std.specs.Prelude.{◌≡◌, ℕ, [], length, MatchOption, not, ◌==◌};
+ghost use Rattle.std.specs.Prelude.{◌≡◌, ℕ, ◌+◌, ◌≤◌, [], ◌∷◌, ⊤, IfSome, length, MatchOption, not, ◌==◌};
 ghost use Rattle.std.specs.List.{take_while};
-ghost use Rattle.std.specs.Iterator.{YieldsFirstBy, item_count};
-ghost use Rattle.sheet.specs.Parts.{parts};
+ghost use Rattle.std.specs.Iterator.{YieldsFirstBy, item_count, MakesProgress};
+ghost use Rattle.sheet.specs.Parts.{Part, parts};
 ghost use Rattle.sheet.specs.Cuts.{part_of, parts_left, end_of, FirstPart};
 
-use super::{Parts, Word};
+use super::{Lines, Parts, Word, Words};
 
 impl<'a, const SEPARATOR: u8> Parts<'a, SEPARATOR> {
     /// The parts of a text.
@@ -21,6 +21,20 @@ impl<'a, const SEPARATOR: u8> Parts<'a, SEPARATOR> {
         ensures { result ≡ end_of self.now }
     {
         self.at + self.rest.len()
+    }
+}
+
+impl<'a> Lines<'a> {
+    /// The next line as its words, at their offsets in the whole text.
+    pub fn next_words(&mut self) -> Option<Words<'a>>
+        ensures line { MatchOption result ((parts_left self.old ≡ []) × (parts_left self.new ≡ [])) (λ w. (l : Part) × (parts_left self.old ≡ l ∷ parts_left self.new) × (parts_left w ≡ parts 32 l.at l.text) × (end_of w ≡ l.at + length l.text)) }
+        ensures end { end_of self.new ≡ end_of self.old }
+    {
+        let line = self.next()?;
+        Some(Parts {
+            rest: line.text,
+            at: line.at,
+        })
     }
 }
 
@@ -61,7 +75,12 @@ impl<'a, const SEPARATOR: u8> Iterator for Parts<'a, SEPARATOR> {
 
     ghost remaining = { item_count parts_left };
 
-    fn next(&mut self) -> Option<Word<'a>> {
+    fn next(&mut self) -> Option<Word<'a>>
+        ensures steps { YieldsFirstBy part_of parts_left self.old result self.new }
+        ensures goes { MakesProgress (λ _. ⊤) (item_count parts_left) self.old result self.new }
+        ensures within { IfSome result (λ w. w.at + length w.text.now ≤ end_of self.old) }
+        ensures end { end_of self.new ≡ end_of self.old }
+    {
         let word = first_part(self.rest, SEPARATOR)?;
         let at = self.at + word.at;
         let used = word.at + word.text.len();
