@@ -1,18 +1,10 @@
 -- Steps as sets: membership in a union and in a single set, and sets of signals below a width.
-use Rattle.std.proofs.Common.{◌≡◌, ℕ, zero, suc, ◌+◌, ◌-◌, ◌*◌, ◌/◌, ◌%◌, ◌^◌, ◌<◌, ◌≤◌, max, Bool, true, false, ◌||◌, T, eqb, ltb, leb, ◌⊎◌, ◌↔◌, sym, refl, ap, ◌∙◌, inl, inr, ⊎_elim, arith}
+use Rattle.std.proofs.Common.{◌≡◌, ℕ, zero, suc, ◌+◌, ◌-◌, ◌*◌, ◌/◌, ◌%◌, ◌^◌, ◌<◌, ◌≤◌, max, true, false, ◌||◌, eqb, ltb, leb, ◌⊎◌, ◌↔◌, sym, refl, ap, ◌∙◌, inl, inr, ⊎_elim, arith}
 use native.Mathlib.Nat.{div-eq_of_lt, div-eq_of_lt-le}
 use lib.Bits.{bit_or, or_step}
-use Rattle.std.proofs.lemmas.Nat.{or_shr, pow_pos, pow-add, pow_below, shl-shr, mod_below, leading_top, le-div}
+use Rattle.std.proofs.lemmas.Nat.{or_shr, pow_pos, pow-add, pow_below, shl-shr, mod_below, leading_top, le-div, one_shl}
 use Rattle.std.proofs.lemmas.Bool.{cases_lt, cases_order, eq-eqb, ne_eqb, true≢false, ltb-true, lt-ltb, le-ltb, le-leb}
 use Rattle.ltl.specs.Steps.{has, Below}
-
-is_true : (b : Bool) → T b → b ≡ true
-is_true true h = refl
-is_true false h = absurd h
-
-true_is : (b : Bool) → b ≡ true → T b
-true_is true e = tt
-true_is false e = absurd (true≢false (sym e))
 
 or_bit : (a b : ℕ) → bit_or a b % 2 ≡ max (a % 2) (b % 2)
 or_bit a b = let e = or_step a b in let x = mod_below a 2 (omega arith) in let y = mod_below b 2 (omega arith) in omega arith
@@ -88,25 +80,33 @@ high width s b = ⊎_elim
     absurd (omega (arith, pow_le (suc j) width k)))
     (cases_lt s (2 ^ width))
 
+-- a signal above 63 is in no step of the program
+pub has_high : (s k : ℕ) → s < 2 ^ 64 → 64 ≤ k → has s k ≡ false
+has_high s k h l = has_none 64 s k h l
+
+-- membership in a set with one signal more
+pub has_more : (s j k : ℕ) → has (bit_or s (2 ^ j)) k ≡ (has s k || eqb k j)
+has_more s j k = has_or s (2 ^ j) k ∙ ap (λ b. has s k || b) (has_one j k)
+
+pub one_shifted : (j : ℕ) → j < 64 → 1 * 2 ^ j % 2 ^ 64 ≡ 2 ^ j
+one_shifted j h = one_shl j 64 h
+
 -- the number tells whether every signal is below the width
-pub below_test : (width s : ℕ) → T (ltb s (2 ^ width)) ↔ Below width s
+pub below_test : (width s : ℕ) → (ltb s (2 ^ width) ≡ true) ↔ Below width s
 below_test width s = (
-  (λ h k e. ⊎_elim
+  (λ e k h. ⊎_elim
       (λ (l : k < width). l)
-      (λ (l : width ≤ k). absurd (true≢false (sym e ∙ has_none width s k (ltb-true s (2 ^ width) (is_true _ h)) l)))
+      (λ (l : width ≤ k). absurd (true≢false (sym h ∙ has_none width s k (ltb-true s (2 ^ width) e) l)))
       (cases_lt k width)),
-  (λ b. true_is _ (lt-ltb s (2 ^ width) (high width s b))),
+  (λ b. lt-ltb s (2 ^ width) (high width s b)),
 )
 
 -- the two ways to test it
 pub wide : (s width : ℕ) → s < 2 ^ 64 → 64 ≤ width → leb 64 width ≡ ltb s (2 ^ width)
 wide s width h l = le-leb 64 width l ∙ sym (lt-ltb s (2 ^ width) (omega (arith, pow_le 64 width l)))
 
-shifted_out : (s width : ℕ) → eqb (s / 2 ^ width) 0 ≡ ltb s (2 ^ width)
+pub shifted_out : (s width : ℕ) → eqb (s / 2 ^ width) 0 ≡ ltb s (2 ^ width)
 shifted_out s width = ⊎_elim
     (λ (h : s < 2 ^ width). let z : s / 2 ^ width ≡ 0 = div-eq_of_lt h in eq-eqb (s / 2 ^ width) 0 z ∙ sym (lt-ltb s (2 ^ width) h))
     (λ (h : 2 ^ width ≤ s). ne_eqb (s / 2 ^ width) 0 (λ e. omega (arith, le-div 1 s (2 ^ width) (pow_pos width) (omega arith))) ∙ sym (le-ltb s (2 ^ width) h))
     (cases_lt s (2 ^ width))
-
-pub no_high : (b s width : ℕ) → b ≡ s → eqb (b / 2 ^ width) 0 ≡ ltb s (2 ^ width)
-no_high b s width e = rw e (shifted_out s width)

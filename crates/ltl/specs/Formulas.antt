@@ -1,5 +1,6 @@
 -- What a formula of the program means.
-use Rattle.std.specs.Prelude.{ℕ, List, take}
+use Rattle.std.specs.Prelude.{ℕ, List}
+use Rattle.arrayvec.specs.ArrayVec.{array_vec_len}
 use Rattle.ltl.specs.declared.formula.Formula.{Formula}
 use Rattle.ltl.specs.declared.row.Row.{Row}
 use Rattle.ltl.specs.Tables.{Table}
@@ -7,11 +8,11 @@ use Rattle.ltl.specs.Trees.{Tree, trees, tree_at}
 
 -- its rows by number
 abbrev pub rows_of : Formula → List Row
-rows_of f = take f.len f.rows
+rows_of f = f.rows.items
 
 -- how many rows it has, R
 abbrev pub row_count : Formula → ℕ
-row_count f = f.len
+row_count f = array_vec_len f.rows
 
 -- how many signals it has, W
 abbrev pub width_of : Formula → ℕ

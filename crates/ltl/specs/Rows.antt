@@ -1,5 +1,6 @@
 -- When a row may stand in a formula: its operands are earlier rows, its signal lies below the width.
 use Rattle.std.specs.Prelude.{ℕ, ◌<◌, Bool, ◌&&◌, nat_lt}
+use Rattle.std.proofs.Props.{props}
 use Rattle.ltl.specs.declared.row.Row.{Row}
 use Rattle.ltl.specs.declared.row.Row.TheVariants.{Signal, Not, Or, Next, Until, Eventually}
 
@@ -20,3 +21,12 @@ fits width r (Or a b) = nat_lt a r && nat_lt b r
 fits width r (Next a) = nat_lt a r
 fits width r (Until a b) = nat_lt a r && nat_lt b r
 fits width r (Eventually a) = nat_lt a r
+
+-- at most one proof says so
+pub fits_prop : (width r : ℕ) (x : Row) → IsProp (Fits width r x)
+fits_prop width r (Signal k) = Prim.hlevel props
+fits_prop width r (Not a) = Prim.hlevel props
+fits_prop width r (Or a b) = Prim.hlevel props
+fits_prop width r (Next a) = Prim.hlevel props
+fits_prop width r (Until a b) = Prim.hlevel props
+fits_prop width r (Eventually a) = Prim.hlevel props

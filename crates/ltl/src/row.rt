@@ -1,5 +1,7 @@
 //! The rows of a formula.
-ghost use Rattle.std.specs.Prelude.{Some};
+ghost use Rattle.std.specs.Prelude.{◌≡◌, Some};
+ghost use Rattle.ltl.specs.declared.row.Row.TheVariants.{Signal};
+ghost use Rattle.ltl.specs.Rows.{fits};
 ghost use Rattle.ltl.specs.Shown.{shown_row};
 
 use std::fmt;
@@ -14,6 +16,28 @@ pub enum Row {
     /// The first operand until the second.
     Until(u8, u8),
     Eventually(u8),
+}
+
+impl Row {
+    /// Whether row r may be this one, in a formula with so many signals.
+    pub(crate) fn fits(self, width: u8, r: usize) -> bool
+        ensures { result ≡ fits width r self }
+    {
+        match self {
+            Row::Signal(k) => k < width,
+            Row::Not(a) | Row::Next(a) | Row::Eventually(a) => (a as usize) < r,
+            Row::Or(a, b) | Row::Until(a, b) => (a as usize) < r && (b as usize) < r,
+        }
+    }
+}
+
+/// Signal 0.
+impl Default for Row {
+    ghost is_default = { λ row. row ≡ Signal 0 };
+
+    fn default() -> Row {
+        Row::Signal(0)
+    }
 }
 
 impl fmt::Display for Row {

@@ -1,26 +1,25 @@
 -- The proof that a plain recorder is a lawful recording; it stands here because the implementation cites it.
-use Rattle.std.specs.Prelude.{ℕ, zero, suc, ◌^◌, ◌<◌, List, [], ◌∷◌, map, length, take}
-use Rattle.std.proofs.Common.{arith}
+use Rattle.std.specs.Prelude.{ℕ, zero, suc, ◌^◌, ◌<◌, ◌≤◌, List, take, slice_index}
+use Rattle.std.proofs.Common.{⊎_elim, arith}
 use Rattle.ltl.specs.Steps.{step_at}
-use Rattle.std.proofs.lemmas.Nat.{mod_below, pow_pos}
-use Rattle.std.proofs.lemmas.List.{length-take, length-map}
+use Rattle.std.proofs.lemmas.Nat.{pow_pos}
+use Rattle.std.proofs.lemmas.Bool.{cases_lt}
+use Rattle.std.proofs.lemmas.List.{length-take, get_or-take, get_or_past}
 use Rattle.recorder.specs.Recordings.{Lawful}
-use Rattle.recorder.specs.Plain.{width_in, held_in, step_in, steps_in, plain_width, plain_steps}
+use Rattle.recorder.specs.Plain.{plain_width, plain_steps}
 use Rattle.recorder.specs.declared.plain.PlainRecorder.{PlainRecorder}
 
-low : (width : ℕ) (xs : List ℕ) (i : ℕ) → step_at (map (step_in width) xs) i < 2 ^ width_in width
-low width xs zero = pow_pos (width_in width)
-low width [] (suc k) = pow_pos (width_in width)
-low width (x ∷ xs) (suc zero) = mod_below x (2 ^ width_in width) (pow_pos (width_in width))
-low width (x ∷ xs) (suc (suc k)) = low width xs (suc k)
-
-lawful : (width held : ℕ) (words : List ℕ) → Lawful (width_in width) (steps_in width held words)
-lawful width held words = record {
-  some_signal = omega arith;
-  few_signals = omega arith;
-  few_steps = omega (arith, length-map (take (held_in held (length words)) words) (step_in width), length-take (held_in held (length words)) words);
-  low = low width (take (held_in held (length words)) words);
-}
+low_steps : (width held : ℕ) (words : List ℕ) → ((k : ℕ) → k < held → slice_index words k < 2 ^ width) → (i : ℕ) → step_at (take held words) i < 2 ^ width
+low_steps width held words low zero = pow_pos width
+low_steps width held words low (suc k) = ⊎_elim
+    (λ (h : k < held). rw (get_or-take held words k 0 h) (low k h))
+    (λ (h : held ≤ k). rw (get_or_past (take held words) k 0 (omega (arith, length-take held words))) (pow_pos width))
+    (cases_lt k held)
 
 pub plain_lawful : (p : PlainRecorder) → Lawful (plain_width p) (plain_steps p)
-plain_lawful p = lawful p.width p.held p.words.now
+plain_lawful p = record {
+  some_signal = p.some_signal;
+  few_signals = p.few_signals;
+  few_steps = let h = p.few_steps in omega (arith, length-take p.held p.words.now);
+  low = low_steps p.width p.held p.words.now p.low;
+}

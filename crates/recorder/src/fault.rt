@@ -2,7 +2,7 @@
 ghost use Rattle.std.specs.Prelude.{◌≡◌, Some};
 ghost use Rattle.recorder.specs.Faults.{record_refusal, open_refusal, shown_record_fault, shown_open_fault};
 
-use ltl::refusal::{Part, Refusal};
+use ltl::refusal::{Question, Refusal};
 use std::error::Error;
 use std::fmt;
 
@@ -25,30 +25,25 @@ pub enum OpenFault {
 }
 
 impl RecordFault {
-    /// The question answered no, its part and its place.
+    /// The question answered no, and its place.
     pub fn refusal(self) -> Refusal
         ensures { result ≡ record_refusal self }
     {
         let question = match self {
-            RecordFault::ForeignSignal => 8,
-            RecordFault::NoRoom => 9,
+            RecordFault::ForeignSignal => Question::SignalsBelowWidth,
+            RecordFault::NoRoom => Question::StepRoom,
         };
-        Refusal {
-            question,
-            part: Part::Recording,
-            place: 0,
-        }
+        Refusal { question, place: 0 }
     }
 }
 
 impl OpenFault {
-    /// The question answered no, its part and its place.
+    /// The question answered no, and its place.
     pub fn refusal(self) -> Refusal
         ensures { result ≡ open_refusal self }
     {
         Refusal {
-            question: 10,
-            part: Part::Recording,
+            question: Question::Opening,
             place: 0,
         }
     }
@@ -58,10 +53,10 @@ impl fmt::Display for RecordFault {
     ghost output = { λ e. Some (shown_record_fault e) };
 
     fn fmt<W: fmt::Write>(&self, f: &mut fmt::Formatter<W>) -> fmt::Result {
-        match self {
-            RecordFault::ForeignSignal => f.write_str("a signal is not below the width"),
-            RecordFault::NoRoom => f.write_str("the step has no room"),
-        }
+        f.write_str(match self {
+            RecordFault::ForeignSignal => "a signal is not below the width",
+            RecordFault::NoRoom => "the step has no room",
+        })
     }
 }
 
@@ -69,10 +64,10 @@ impl fmt::Display for OpenFault {
     ghost output = { λ e. Some (shown_open_fault e) };
 
     fn fmt<W: fmt::Write>(&self, f: &mut fmt::Formatter<W>) -> fmt::Result {
-        match self {
-            OpenFault::Width => f.write_str("the width is not from 1 to 32"),
-            OpenFault::Memory => f.write_str("the memory has room for no step"),
-        }
+        f.write_str(match self {
+            OpenFault::Width => "the width is not from 1 to 32",
+            OpenFault::Memory => "the memory has room for no step",
+        })
     }
 }
 

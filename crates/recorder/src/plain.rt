@@ -1,10 +1,5 @@
 //! The plain recorder: one 32-bit word a step, in memory that is handed in.
-ghost use Rattle.std.specs.Prelude.{◌≡◌, ◌^◌, ◌<◌, ◌≤◌, [], ◌∷◌, ◌++◌, length, MatchResult, slice_set};
-ghost use Rattle.ltl.specs.Steps.{step_at, set_of};
-ghost use Rattle.recorder.specs.Recordings.{Roomy, record_answer, grown, Unchanged};
-ghost use Rattle.recorder.specs.Plain.{plain_width, plain_steps, plain_capacity, plain_room, words_after};
-ghost use Rattle.recorder.specs.PlainLaws.{plain_lawful};
-ghost use Rattle.recorder.specs.Opens.{Opened, Refused};
+ghost use Rattle.std.specs.Prelude.{ℕ, ◌^◌, ◌<◌, ◌≤◌, min, length, slice_index};
 
 use crate::fault::{OpenFault, RecordFault};
 use crate::recording::{Recorder, Recording};
@@ -19,6 +14,10 @@ pub struct PlainRecorder<'a> {
     words: &'a mut [u32],
     held: usize,
     width: u8,
+    ghost some_signal: { 1 ≤ width },
+    ghost few_signals: { width ≤ 32 },
+    ghost few_steps: { held ≤ min (length words.now) 4096 },
+    ghost low: { (k : ℕ) → k < held → slice_index words.now k < 2 ^ width },
 }
 
 /// A recorder that was not opened: why, and the memory as it was handed in.
@@ -29,17 +28,21 @@ pub struct NotOpened<'a> {
 }
 
 impl<'a> PlainRecorder<'a> {
+    ghost use Rattle.std.specs.Prelude.{◌≡◌, MatchResult};
+    ghost use Rattle.recorder.specs.Plain.{plain_capacity};
+    ghost use Rattle.recorder.specs.Opens.{Opened, Refused};
+
     /// A recorder of so many signals without steps, over this memory, of which nothing is written.
     pub fn open(width: u8, words: &'a mut [u32]) -> Result<PlainRecorder<'a>, NotOpened<'a>>
         ensures { MatchResult result (λ p. Opened width words.old p) (λ e. Refused width words.old e) }
     {
-        if width == 0 || width > 32 {
+        if !(1..=32).contains(&width) {
             return Err(NotOpened {
                 fault: OpenFault::Width,
                 words,
             });
         }
-        if words.len() == 0 {
+        if words.is_empty() {
             return Err(NotOpened {
                 fault: OpenFault::Memory,
                 words,
@@ -51,41 +54,19 @@ impl<'a> PlainRecorder<'a> {
             width,
         })
     }
-}
 
-/// n: how many steps are held.
-fn held(p: &PlainRecorder) -> usize
-    ensures value { result ≡ length (plain_steps p.now) }
-    ensures within { result ≤ length p.now.words.now }
-{
-    p.held.min(p.words.len().min(LIMIT))
-}
-
-/// The step at a position from 1 to n.
-fn kept_at(p: &PlainRecorder, at: usize) -> Step
-    requires first { 1 ≤ at }
-    requires last { at ≤ length (plain_steps p.now) }
-    ensures { set_of result ≡ step_at (plain_steps p.now) at }
-{
-    let word = p.words[at - 1] as u64;
-    Step::from_bits(word % (1u64 << p.width.max(1).min(32)))
-}
-
-/// Writes word n, of one step more.
-fn append(p: &mut PlainRecorder, n: usize, step: Step)
-    requires next { n ≡ length (plain_steps p.old) }
-    requires fits { set_of step < 2 ^ plain_width p.old }
-    requires room { length (plain_steps p.old) < plain_capacity p.old }
-    ensures steps { plain_steps p.new ≡ plain_steps p.old ++ set_of step ∷ [] }
-    ensures width { plain_width p.new ≡ plain_width p.old }
-    ensures capacity { plain_capacity p.new ≡ plain_capacity p.old }
-    ensures words { p.new.words.now ≡ slice_set p.old.words.now (length (plain_steps p.old)) (set_of step) }
-{
-    p.words[n] = step.bits() as u32;
-    p.held = n + 1;
+    /// K: a step to a word, and at most 4,096.
+    fn capacity(&self) -> usize
+        ensures { result ≡ plain_capacity self.now }
+    {
+        self.words.len().min(LIMIT)
+    }
 }
 
 impl<'a> Recording for PlainRecorder<'a> {
+    ghost use Rattle.recorder.specs.Plain.{plain_width, plain_steps};
+    ghost use Rattle.recorder.specs.PlainLaws.{plain_lawful};
+
     ghost width = { plain_width };
 
     ghost steps = { plain_steps };
@@ -93,28 +74,33 @@ impl<'a> Recording for PlainRecorder<'a> {
     ghost lawful = { plain_lawful };
 
     fn width(&self) -> u8 {
-        self.width.max(1).min(32)
+        self.width
     }
 
     fn len(&self) -> usize {
-        held(self)
+        self.held
     }
 
     fn step(&self, at: usize) -> Step {
-        if at == 0 || at > held(self) {
+        if at == 0 || at > self.held {
             return Step::empty();
         }
-        kept_at(self, at)
+        Step::from_bits(u64::from(self.words[at - 1]))
     }
 }
 
 impl<'a> Recorder for PlainRecorder<'a> {
+    ghost use Rattle.std.specs.Prelude.{◌≡◌};
+    ghost use Rattle.ltl.specs.Steps.{set_of};
+    ghost use Rattle.recorder.specs.Recordings.{Roomy, record_answer, grown, Unchanged};
+    ghost use Rattle.recorder.specs.Plain.{plain_width, plain_steps, plain_capacity, plain_room, words_after};
+
     ghost room = { plain_room };
 
     ghost capacity = { plain_capacity };
 
     fn room(&self, step: Step) -> bool {
-        step.is_below(self.width()) && self.len() < self.words.len().min(LIMIT)
+        step.is_below(self.width) && self.held < self.capacity()
     }
 
     fn record(&mut self, step: Step) -> Result<usize, RecordFault>
@@ -126,14 +112,15 @@ impl<'a> Recorder for PlainRecorder<'a> {
         ensures law { Roomy (plain_width self.old) (plain_capacity self.old) (length (plain_steps self.old)) (set_of step) (plain_room self.old (set_of step)) }
         ensures words { self.new.words.now ≡ words_after result (length (plain_steps self.old)) self.old.words.now (set_of step) }
     {
-        if !step.is_below(self.width()) {
+        if !step.is_below(self.width) {
             return Err(RecordFault::ForeignSignal);
         }
-        let n = self.len();
-        if n >= self.words.len().min(LIMIT) {
+        let n = self.held;
+        if n >= self.capacity() {
             return Err(RecordFault::NoRoom);
         }
-        append(self, n, step);
+        self.words[n] = step.bits() as u32;
+        self.held = n + 1;
         Ok(n + 1)
     }
 }

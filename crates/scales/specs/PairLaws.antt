@@ -1,5 +1,6 @@
 -- The proof that the scale of pairs keeps the truth laws; it stands here because the implementation cites it.
-use Rattle.std.proofs.Common.{arith}
+use Rattle.std.proofs.Common.{◌≡◌, ◌<◌, ◌≤◌, ◌⊎◌, refl, ap, inl, inr, ⊎_elim, arith}
+use Rattle.std.proofs.lemmas.Bool.{cases_lt}
 use Rattle.scales.specs.Scales.{Laws}
 use Rattle.scales.specs.Pairs.{below, least, most, one_more, truer_pair, pair_ops}
 use Rattle.scales.specs.declared.pair.Count.{Count}
@@ -40,84 +41,60 @@ below_trans Impossible (Number b) z h k = absurd h
 below_trans Impossible Infinite z h k = absurd h
 below_trans Impossible Impossible z h k = k
 
+-- the smaller is one of the two, and below both
+least_is : (x y : Count) → ((least x y ≡ x) × below x y) ⊎ ((least x y ≡ y) × below y x)
+least_is (Number a) (Number b) = ⊎_elim
+    (λ (h : a < b). inl (ap Number (omega arith), omega arith))
+    (λ (h : b ≤ a). inr (ap Number (omega arith), h))
+    (cases_lt a b)
+least_is (Number a) Infinite = inl (refl, tt)
+least_is (Number a) Impossible = inl (refl, tt)
+least_is Infinite (Number b) = inr (refl, tt)
+least_is Infinite Infinite = inl (refl, tt)
+least_is Infinite Impossible = inl (refl, tt)
+least_is Impossible (Number b) = inr (refl, tt)
+least_is Impossible Infinite = inr (refl, tt)
+least_is Impossible Impossible = inl (refl, tt)
+
+-- the larger is one of the two, and above both
+most_is : (x y : Count) → ((most x y ≡ y) × below x y) ⊎ ((most x y ≡ x) × below y x)
+most_is (Number a) (Number b) = ⊎_elim
+    (λ (h : a < b). inl (ap Number (omega arith), omega arith))
+    (λ (h : b ≤ a). inr (ap Number (omega arith), h))
+    (cases_lt a b)
+most_is (Number a) Infinite = inl (refl, tt)
+most_is (Number a) Impossible = inl (refl, tt)
+most_is Infinite (Number b) = inr (refl, tt)
+most_is Infinite Infinite = inl (refl, tt)
+most_is Infinite Impossible = inl (refl, tt)
+most_is Impossible (Number b) = inr (refl, tt)
+most_is Impossible Infinite = inr (refl, tt)
+most_is Impossible Impossible = inl (refl, tt)
+
 least_left : (x y : Count) → below (least x y) x
-least_left (Number a) (Number b) = omega arith
-least_left (Number a) Infinite = omega arith
-least_left (Number a) Impossible = omega arith
-least_left Infinite (Number b) = tt
-least_left Infinite Infinite = tt
-least_left Infinite Impossible = tt
-least_left Impossible (Number b) = tt
-least_left Impossible Infinite = tt
-least_left Impossible Impossible = tt
+least_left x y = ⊎_elim (λ e. rw e.0 (below_same x)) (λ e. rw e.0 e.1) (least_is x y)
 
 least_right : (x y : Count) → below (least x y) y
-least_right (Number a) (Number b) = omega arith
-least_right (Number a) Infinite = tt
-least_right (Number a) Impossible = tt
-least_right Infinite (Number b) = omega arith
-least_right Infinite Infinite = tt
-least_right Infinite Impossible = tt
-least_right Impossible (Number b) = omega arith
-least_right Impossible Infinite = tt
-least_right Impossible Impossible = tt
-
--- a lower bound of both is one of the smaller, which is one of them
-least_under : (x y z : Count) → below z x → below z y → below z (least x y)
-least_under (Number a) (Number b) (Number c) h k = omega arith
-least_under (Number a) (Number b) Infinite h k = h
-least_under (Number a) (Number b) Impossible h k = h
-least_under (Number a) Infinite z h k = h
-least_under (Number a) Impossible z h k = h
-least_under Infinite (Number b) z h k = k
-least_under Infinite Infinite z h k = h
-least_under Infinite Impossible z h k = h
-least_under Impossible (Number b) z h k = k
-least_under Impossible Infinite z h k = k
-least_under Impossible Impossible z h k = h
+least_right x y = ⊎_elim (λ e. rw e.0 e.1) (λ e. rw e.0 (below_same y)) (least_is x y)
 
 most_left : (x y : Count) → below x (most x y)
-most_left (Number a) (Number b) = omega arith
-most_left (Number a) Infinite = tt
-most_left (Number a) Impossible = tt
-most_left Infinite (Number b) = tt
-most_left Infinite Infinite = tt
-most_left Infinite Impossible = tt
-most_left Impossible (Number b) = tt
-most_left Impossible Infinite = tt
-most_left Impossible Impossible = tt
+most_left x y = ⊎_elim (λ e. rw e.0 e.1) (λ e. rw e.0 (below_same x)) (most_is x y)
 
 most_right : (x y : Count) → below y (most x y)
-most_right (Number a) (Number b) = omega arith
-most_right (Number a) Infinite = tt
-most_right (Number a) Impossible = tt
-most_right Infinite (Number b) = tt
-most_right Infinite Infinite = tt
-most_right Infinite Impossible = tt
-most_right Impossible (Number b) = tt
-most_right Impossible Infinite = tt
-most_right Impossible Impossible = tt
+most_right x y = ⊎_elim (λ e. rw e.0 (below_same y)) (λ e. rw e.0 e.1) (most_is x y)
 
-most_over : (x y z : Count) → below x z → below y z → below (most x y) z
-most_over (Number a) (Number b) (Number c) h k = omega arith
-most_over (Number a) (Number b) Infinite h k = tt
-most_over (Number a) (Number b) Impossible h k = tt
-most_over (Number a) Infinite z h k = k
-most_over (Number a) Impossible z h k = k
-most_over Infinite (Number b) z h k = h
-most_over Infinite Infinite z h k = h
-most_over Infinite Impossible z h k = k
-most_over Impossible (Number b) z h k = h
-most_over Impossible Infinite z h k = h
-most_over Impossible Impossible z h k = h
-
+-- what is below both is below the smaller, and what is above both above the larger
 least_both : (x y z w : Count) → below x y → below z w → below (least x z) (least y w)
-least_both x y z w h k =
-    least_under y w (least x z) (below_trans (least x z) x y (least_left x z) h) (below_trans (least x z) z w (least_right x z) k)
+least_both x y z w h k = ⊎_elim
+    (λ e. rw e.0 (below_trans (least x z) x y (least_left x z) h))
+    (λ e. rw e.0 (below_trans (least x z) z w (least_right x z) k))
+    (least_is y w)
 
 most_both : (x y z w : Count) → below y x → below w z → below (most y w) (most x z)
-most_both x y z w h k =
-    most_over y w (most x z) (below_trans y x (most x z) h (most_left x z)) (below_trans w z (most x z) k (most_right x z))
+most_both x y z w h k = ⊎_elim
+    (λ e. rw e.0 (below_trans w z (most x z) k (most_right x z)))
+    (λ e. rw e.0 (below_trans y x (most x z) h (most_left x z)))
+    (most_is y w)
 
 pub pair_laws : Laws pair_ops truer_pair
 pair_laws = record {

@@ -1,6 +1,6 @@
 //! The scale of pairs of witness counts.
 ghost use Rattle.std.specs.Prelude.{◌≡◌, Some};
-ghost use Rattle.scales.specs.Pairs.{least, most, one_more, pair, pair_ops, truer_pair};
+ghost use Rattle.scales.specs.Pairs.{one_more, pair, pair_ops, truer_pair};
 ghost use Rattle.scales.specs.Shown.{shown_count, shown_pair};
 ghost use Rattle.scales.specs.PairLaws.{pair_laws};
 
@@ -8,7 +8,8 @@ use crate::scale::Scale;
 use std::fmt;
 
 /// How many further steps a witness needs: a number, infinitely many, or none can be one.
-#[derive(Clone, Copy, PartialEq, Eq, Debug)]
+/// The order is number < inf < impossible.
+#[derive(Clone, Copy, PartialEq, Eq, PartialOrd, Ord, Debug)]
 pub enum Count {
     Number(u16),
     Infinite,
@@ -32,32 +33,6 @@ impl Pair {
 }
 
 impl Count {
-    /// The smaller of two counts, in the order number < inf < impossible.
-    fn smaller(self, other: Count) -> Count
-        ensures { result ≡ least self other }
-    {
-        match (self, other) {
-            (Count::Number(a), Count::Number(b)) => Count::Number(a.min(b)),
-            (Count::Number(_), _) => self,
-            (_, Count::Number(_)) => other,
-            (Count::Impossible, b) => b,
-            (Count::Infinite, _) => Count::Infinite,
-        }
-    }
-
-    /// The larger of two counts.
-    fn larger(self, other: Count) -> Count
-        ensures { result ≡ most self other }
-    {
-        match (self, other) {
-            (Count::Number(a), Count::Number(b)) => Count::Number(a.max(b)),
-            (Count::Number(_), b) => b,
-            (a, Count::Number(_)) => a,
-            (Count::Impossible, _) => Count::Impossible,
-            (Count::Infinite, b) => b,
-        }
-    }
-
     /// One more, for a number below 65,535.
     fn more(self) -> Count
         ensures { result ≡ one_more self }
@@ -97,7 +72,7 @@ impl Scale for Pair {
     }
 
     fn join(self, other: Pair) -> Pair {
-        Self::new(self.s.smaller(other.s), self.f.larger(other.f))
+        Self::new(self.s.min(other.s), self.f.max(other.f))
     }
 
     fn later(self) -> Pair {
@@ -121,8 +96,6 @@ impl fmt::Display for Pair {
     ghost output = { λ p. Some (shown_pair p) };
 
     fn fmt<W: fmt::Write>(&self, f: &mut fmt::Formatter<W>) -> fmt::Result {
-        let s = self.s;
-        let v = self.f;
-        write!(f, "({s}, {v})")
+        write!(f, "({}, {})", self.s, self.f)
     }
 }

@@ -8,7 +8,7 @@ use crate::scale::Scale;
 use std::fmt;
 
 /// A three-valued truth: false < undecided < true.
-#[derive(Clone, Copy, PartialEq, Eq, Debug)]
+#[derive(Clone, Copy, PartialEq, Eq, PartialOrd, Ord, Debug)]
 pub enum Truth {
     False,
     Undecided,
@@ -47,12 +47,7 @@ impl Scale for Truth {
     }
 
     fn join(self, other: Truth) -> Truth {
-        match (self, other) {
-            (Truth::True, _) => Truth::True,
-            (Truth::False, b) => b,
-            (Truth::Undecided, Truth::True) => Truth::True,
-            (Truth::Undecided, _) => Truth::Undecided,
-        }
+        self.max(other)
     }
 
     fn later(self) -> Truth {

@@ -1,79 +1,19 @@
 //! Making a formula from rows, and reading its rows.
-ghost use Rattle.std.specs.Prelude.{◌≡◌, ◌<◌, ◌≤◌, length, take, IfSome, if◌then◌else◌, Some, None, MatchBool, MatchOption, nat_lt, slice_index_or};
+ghost use Rattle.std.specs.Prelude.{◌≡◌, ◌<◌, ◌≤◌, length, IfSome, if◌then◌else◌, Some, None, MatchBool, MatchOption, nat_lt, slice_index_or};
 ghost use Rattle.ltl.specs.declared.row.Row.TheVariants.{Signal};
-ghost use Rattle.ltl.specs.Rows.{Fits, fits};
+ghost use Rattle.ltl.specs.Rows.{Fits};
 ghost use Rattle.ltl.specs.Tables.{WellFormed, AllFit, table_from};
 ghost use Rattle.ltl.specs.Formulas.{rows_of, row_count, width_of, table};
 
 use super::Formula;
 use crate::row::Row;
-
-/// Whether row r may be this one, in a formula with so many signals.
-fn fits_at(row: Row, width: u8, r: usize) -> bool
-    ensures { result ≡ fits width r row }
-{
-    match row {
-        Row::Signal(k) => k < width,
-        Row::Not(a) | Row::Next(a) | Row::Eventually(a) => (a as usize) < r,
-        Row::Or(a, b) | Row::Until(a, b) => (a as usize) < r && (b as usize) < r,
-    }
-}
+use arrayvec::ArrayVec;
 
 /// Whether each row may stand where it does.
 fn all_fit(rows: &[Row], width: u8) -> bool
     ensures { MatchBool result (AllFit width rows.now) (¬ AllFit width rows.now) }
 {
-    for (r, row) in rows.iter().enumerate() {
-        if !fits_at(*row, width, r) {
-            return false;
-        }
-    }
-    true
-}
-
-/// A table that begins with these rows.
-fn filled(rows: &[Row]) -> [Row; 64]
-    requires { length rows.now ≤ 64 }
-    ensures begins { take (length rows.now) result ≡ rows.now }
-    ensures sized { length result ≡ 64 }
-{
-    let mut table = [Row::Signal(0); 64];
-    for r in 0..rows.len() {
-        table[r] = rows[r];
-    }
-    table
-}
-
-/// The formula of rows that make one.
-fn assembled(width: u8, rows: &[Row], watch: usize) -> Formula
-    requires { WellFormed (table_from width rows.now watch) }
-    ensures { table result ≡ table_from width rows.now watch }
-{
-    Formula {
-        width,
-        rows: filled(rows),
-        len: rows.len(),
-        watch,
-    }
-}
-
-/// Row r of a formula that has it.
-fn stored(formula: &Formula, r: usize) -> Row
-    requires { r < row_count formula.now }
-    ensures value { result ≡ slice_index_or (rows_of formula.now) r (Signal 0) }
-    ensures within { r < length (rows_of formula.now) }
-    ensures fits { Fits (width_of formula.now) r result }
-{
-    formula.rows[r]
-}
-
-/// How many rows the table of a formula has.
-fn counted(formula: &Formula) -> usize
-    ensures value { result ≡ row_count formula.now }
-    ensures within { (1 ≤ result) × (result ≤ 64) }
-    ensures rows { result ≡ length (rows_of formula.now) }
-{
-    formula.len
+    rows.iter().enumerate().all(|(r, row)| row.fits(width, r))
 }
 
 impl Formula {
@@ -81,13 +21,11 @@ impl Formula {
     pub fn new(width: u8, rows: &[Row], watch: usize) -> Option<Formula>
         ensures { MatchOption result (¬ WellFormed (table_from width rows.now watch)) (λ f. (table f ≡ table_from width rows.now watch) × WellFormed (table f)) }
     {
-        if width == 0 || width > 32 || rows.len() > 64 || watch >= rows.len() {
+        if !(1..=32).contains(&width) || watch >= rows.len() || !all_fit(rows, width) {
             return None;
         }
-        if !all_fit(rows, width) {
-            return None;
-        }
-        Some(assembled(width, rows, watch))
+        let rows = ArrayVec::try_from(rows).ok()?;
+        Some(Formula { width, rows, watch })
     }
 
     /// How many signals the formula has, W.
@@ -98,13 +36,21 @@ impl Formula {
         self.width
     }
 
+    /// The rows by number.
+    pub fn rows(&self) -> &[Row]
+        ensures value { result.now ≡ rows_of self.now }
+        ensures well_formed { WellFormed (table self.now) }
+    {
+        self.rows.as_slice()
+    }
+
     /// How many rows the formula has, R.
     pub fn row_count(&self) -> usize
         ensures value { result ≡ row_count self.now }
         ensures within { (1 ≤ result) × (result ≤ 64) }
         ensures counted { result ≡ length (rows_of self.now) }
     {
-        counted(self)
+        self.rows.len()
     }
 
     /// The number of the watch row.
@@ -120,9 +66,6 @@ impl Formula {
         ensures value { result ≡ (if nat_lt r (row_count self.now) then Some (slice_index_or (rows_of self.now) r (Signal 0)) else None) }
         ensures fits { IfSome result (λ row. (r < length (rows_of self.now)) × Fits (width_of self.now) r row) }
     {
-        if r >= self.len {
-            return None;
-        }
-        Some(stored(self, r))
+        self.rows().get(r).copied()
     }
 }

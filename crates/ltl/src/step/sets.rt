@@ -1,5 +1,5 @@
 //! What can be asked of a step, and how one is made.
-ghost use Rattle.std.specs.Prelude.{◌≡◌, ℕ, ◌^◌, ◌<◌, ◌≤◌, ◌||◌, T, ◌↔◌, MatchOption, ◌==◌, bit_or, nat_lt};
+ghost use Rattle.std.specs.Prelude.{◌≡◌, ℕ, ◌^◌, ◌<◌, ◌≤◌, IsTrue, ◌||◌, ◌↔◌, MatchOption, ◌==◌, bit_or, nat_lt};
 ghost use Rattle.ltl.specs.Steps.{has, Below, set_of};
 
 use super::Step;
@@ -27,48 +27,33 @@ impl Step {
     }
 
     /// Whether a signal is in the step.
+    #[tactic(auto, using(crate::proofs::Sets::has_high))]
     pub fn has(self, signal: u8) -> bool
         ensures { result ≡ has (set_of self) signal }
     {
-        let bits = self.bits();
-        signal < 64 && (bits >> signal) % 2 == 1
+        signal < 64 && (self.bits() >> signal) % 2 == 1
     }
 
     /// The step with one signal more, or nothing for a signal above 63.
+    #[tactic(auto, using(crate::proofs::Sets::has_more, crate::proofs::Sets::one_shifted))]
     pub fn with(self, signal: u8) -> Option<Step>
         ensures { MatchOption result (64 ≤ signal) (λ s. (signal < 64) × (set_of s ≡ bit_or (set_of self) (2 ^ signal)) × ((k : ℕ) → has (set_of s) k ≡ (has (set_of self) k || k == signal))) }
     {
         if signal >= 64 {
             return None;
         }
-        Some(added(self, signal))
+        Some(Step {
+            bits: self.bits | 1u64 << signal,
+        })
     }
 
     /// Whether every signal of the step is below a width.
+    #[tactic(auto, using(crate::proofs::Sets::below_test, crate::proofs::Sets::wide, crate::proofs::Sets::has_high, crate::proofs::Sets::shifted_out))]
     pub fn is_below(self, width: u8) -> bool
         ensures value { result ≡ nat_lt (set_of self) (2 ^ width) }
-        ensures signals { T result ↔ Below width (set_of self) }
+        ensures signals { IsTrue result ↔ Below width (set_of self) }
     {
-        below(self, width)
+        let bits = self.bits();
+        width >= 64 || bits >> width == 0
     }
-}
-
-/// The step with one signal more.
-fn added(step: Step, signal: u8) -> Step
-    requires { signal < 64 }
-    ensures set { set_of result ≡ bit_or (set_of step) (2 ^ signal) }
-    ensures members { (k : ℕ) → has (set_of result) k ≡ (has (set_of step) k || k == signal) }
-{
-    Step {
-        bits: step.bits | 1u64 << signal,
-    }
-}
-
-/// Whether no bit from the width on is 1.
-fn below(step: Step, width: u8) -> bool
-    ensures value { result ≡ nat_lt (set_of step) (2 ^ width) }
-    ensures signals { T result ↔ Below width (set_of step) }
-{
-    let bits = step.bits();
-    width >= 64 || bits >> width == 0
 }

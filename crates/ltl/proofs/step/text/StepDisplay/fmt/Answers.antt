@@ -1,14 +1,23 @@
-use Rattle.std.proofs.Common.{true, [], ◌∷◌, ◌++◌, refl}
-use Rattle.ltl.specs.Shown.{commas, signals_from}
-use Rattle.std.proofs.Output.{has_written_append}
+use Rattle.std.proofs.Common.{true, sym, refl, rules}
+use Rattle.ltl.proofs.Signals.{shown_none, shown_absent, shown_present, shown_all}
 use Rattle.ltl.proofs.step.text.StepDisplay.fmt.Goals as goal
+
+pub loop-k-init : goal.loop-k-init
+loop-k-init g c = (search rules, λ plain. shown_none _ _ _ _ (c.in_ok-write_str.ensures.writes plain (refl {a = true})))
+
+pub loop-k-preserved-then-not-has : goal.loop-k-preserved-then-not-has
+loop-k-preserved-then-not-has g c =
+    (c.loop-k.invariant.0, λ plain. shown_absent _ _ _ _ _ _ (c.loop-k.invariant.1 plain) c.loop-k-test.true (sym c.if-not-has.ensures))
+
+pub loop-k-preserved : goal.loop-k-preserved
+loop-k-preserved g c = (
+  search rules,
+  λ plain.
+      let shown = c.loop-k.invariant.1 plain in
+      shown_present _ _ _ _ _ _ shown _ c.loop-k-test.true (sym c.if-not-has.ensures) (c.in_ok-write.ensures.writes shown.wrote.plain (refl {a = true})),
+)
 
 pub returns-clause-writes : goal.returns-clause-writes
 returns-clause-writes g c = λ plain ok.
-    let a = c.in_ok-write_str.ensures.writes plain (refl {a = true}) in
-    let b = c.in_ok-show_signals.ensures a.plain (refl {a = true}) in
-    let d = c.write_str-2.ensures.writes b.plain ok in
-    let took = g.W.Write.write_str_gives in
-    let signals = commas (signals_from 64 0 c.args.self.now.bits) in
-    has_written_append took c.args.f.now (123 ∷ []) c.write_str.new.self (signals ++ (125 ∷ [])) c.write_str-2.new.self a
-    (has_written_append took c.write_str.new.self signals c.show_signals.new.f (125 ∷ []) c.write_str-2.new.self b d)
+    let shown = c.loop-k.invariant.1 plain in
+    shown_all _ _ _ _ _ _ shown _ c.loop-k-test.false (c.write_str-2.ensures.writes shown.wrote.plain ok)
