@@ -1,6 +1,6 @@
 -- How many parts there are, and where they end.
 use Rattle.std.proofs.Common.{◌≡◌, ℕ, suc, ◌+◌, ◌≤◌, Bool, true, false, cond, ◌==◌, List, [], ◌∷◌, length, take, refl, arith, length-take}
-use Rattle.sheet.specs.Parts.{Part, part, run, parts_in, parts}
+use Rattle.sheet.specs.Parts.{Part, part, run, parts_in}
 use Rattle.sheet.specs.Cuts.{parts_left, end_of}
 use Rattle.sheet.specs.declared.words.Parts.{Parts}
 use Rattle.sheet_reader.proofs.Forests.{zero_one}

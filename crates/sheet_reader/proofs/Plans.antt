@@ -1,9 +1,9 @@
 -- What the line reader does to a plan, against what a line is said to do to a state.
-use Rattle.std.proofs.Common.{◌≡◌, ℕ, ◌+◌, ◌-◌, ◌<◌, ◌≤◌, Bool, true, false, cond, ◌&&◌, leb, ◌⊎◌, List, [], ◌∷◌, ◌++◌, length, take, Option, Some, Ok, Err, sym, refl, add-one, subst, ap, ◌∙◌, inl, inr, ⊎_elim, arith, length-append, length-take-le, take_all}
+use Rattle.std.proofs.Common.{◌≡◌, ℕ, ◌+◌, ◌<◌, ◌≤◌, Bool, true, false, cond, ◌&&◌, leb, ◌⊎◌, List, [], ◌∷◌, ◌++◌, length, take, Option, Some, Ok, Err, sym, refl, add-one, subst, ap, ◌∙◌, inl, inr, ⊎_elim, arith, length-append, take_all}
 use Rattle.std.proofs.lemmas.Bool.{lt-leb}
 use Rattle.std.proofs.lemmas.List.{length_push}
 use Rattle.ltl.specs.declared.row.Row.{Row}
-use Rattle.sheet.specs.Parts.{Part, parts}
+use Rattle.sheet.specs.Parts.{Part}
 use Rattle.sheet.specs.Tokens.{token_of}
 use Rattle.sheet.specs.declared.token.Keyword.{Keyword}
 use Rattle.sheet.specs.declared.token.Keyword.TheVariants as key

@@ -1,6 +1,5 @@
 -- One step of the prefix reader, over the words.
-use Rattle.std.proofs.Common.{◌≡◌, ℕ, suc, ◌+◌, ◌-◌, ◌<◌, ◌≤◌, List, ◌∷◌, ◌++◌, length, take, drop, Option, sym, refl, ap, ◌∙◌, subst, subst₂, append_assoc, append-nil, add_assoc, arith, length-drop, length-take, take_all}
-use Rattle.std.proofs.lemmas.List.{take_rest, drop-drop}
+use Rattle.std.proofs.Common.{◌≡◌, ℕ, suc, ◌+◌, ◌-◌, ◌<◌, ◌≤◌, List, ◌∷◌, ◌++◌, length, take, Option, sym, refl, ap, ◌∙◌, subst, append_assoc, append-nil, arith, take_all}
 use Rattle.ltl.specs.declared.row.Row.{Row}
 use Rattle.sheet.specs.Parts.{Part, part}
 use Rattle.sheet.specs.Tokens.{operator, name, token_of}
@@ -10,7 +9,7 @@ use Rattle.sheet.specs.declared.token.Unary.TheVariants as unary
 use Rattle.sheet.specs.declared.token.Binary.{Binary}
 use Rattle.sheet.specs.declared.token.Binary.TheVariants as binary
 use Rattle.sheet_reader.specs.Drafts.{Got, Bad}
-use Rattle.sheet_reader.specs.Grammar.{earlier, one, two, Symbol, takes0, takes1, takes2, spelt, wrong, bare, symbol, symbols, known}
+use Rattle.sheet_reader.specs.Grammar.{earlier, one, two, Symbol, takes0, takes1, takes2, spelt, wrong, bare, symbol, known}
 use Rattle.sheet_reader.specs.Names.{row_named}
 use Rattle.sheet_reader.specs.Sheets.{symbols_of}
 use Rattle.sheet_reader.specs.Rows.{size, size1, size2, top, made, rows1, rows2}

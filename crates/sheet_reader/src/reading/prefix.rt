@@ -19,7 +19,7 @@ fn wanted_word<'a>(words: &mut Words<'a>) -> Result<Word<'a>, WordFault>
     ensures word { MatchResult result (λ w. parts_left words.old ≡ part_of w ∷ parts_left words.new) (λ f. (parts_left words.old ≡ []) × (f ≡ WordFault.Missing (end_of words.old))) }
     ensures end { end_of words.new ≡ end_of words.old }
 {
-    let word = words.next();
+    let word = words.next_part();
     word.ok_or(WordFault::Missing { at: words.end() })
 }
 
@@ -27,7 +27,7 @@ fn wanted_word<'a>(words: &mut Words<'a>) -> Result<Word<'a>, WordFault>
 fn nothing_more(mut words: Words) -> Result<(), FormulaFault>
     ensures { result ≡ ask_nothing (parts_left words.entry) }
 {
-    match words.next() {
+    match words.next_part() {
         Some(word) => Err(FormulaFault::Surplus { at: word.at }),
         None => Ok(()),
     }

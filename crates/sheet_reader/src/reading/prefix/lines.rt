@@ -87,7 +87,7 @@ impl<'a> Declared<'a> {
         ensures name { MatchResult result (λ w. ask_name self.now.sheet.now (names_in self.now.names.now) (parts_left words.old) (end_of words.old) ≡ Ok (part_of w, parts_left words.new)) (λ f. ask_name self.now.sheet.now (names_in self.now.names.now) (parts_left words.old) (end_of words.old) ≡ Err f) }
         ensures end { end_of words.new ≡ end_of words.old }
     {
-        let word = words.next();
+        let word = words.next_part();
         let word = word.ok_or(NameFault::Missing { at: words.end() })?;
         self.fresh(word)?;
         Ok(word)
@@ -211,7 +211,7 @@ impl Plan {
         requires { end_of words ≤ 4096 }
         ensures { told_plan result ≡ by_words sheet.now (state_of self) (parts_left words.entry) (end_of words.entry) }
     {
-        let Some(word) = words.next() else {
+        let Some(word) = words.next_part() else {
             return Ok(self);
         };
         let keyword = line_keyword(word, self.watch)?;

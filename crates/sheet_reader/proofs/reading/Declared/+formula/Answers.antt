@@ -1,5 +1,5 @@
 use Rattle.std.proofs.Common.{length, Some, sym, ap, ◌∙◌, arith}
-use Rattle.sheet.specs.Cuts.{parts_left, end_of}
+use Rattle.sheet.specs.Cuts.{end_of}
 use Rattle.sheet.specs.Tokens.{operator}
 use Rattle.sheet_reader.specs.Drafts.{kept}
 use Rattle.sheet_reader.specs.Names.{names_in}

@@ -1,4 +1,4 @@
-use Rattle.std.proofs.Common.{◌<◌, length, ap, sym, ◌∙◌, arith}
+use Rattle.std.proofs.Common.{◌<◌, length, ap, ◌∙◌, arith}
 use Rattle.std.proofs.lemmas.Bool.Decides.{nat_tests}
 use Rattle.sheet_reader.proofs.Drafts.{Pushed, pushed_in, pushed_out}
 use Rattle.sheet_reader.proofs.reading.Draft.push.Goals as goal
