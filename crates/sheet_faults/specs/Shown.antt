@@ -1,4 +1,4 @@
--- The words for each refusal: the question that was answered no, and what is wrong.
+-- The words for each refusal: what is wrong.
 use Rattle.std.specs.Prelude.{ℕ, List, codes}
 use Rattle.sheet_faults.specs.declared.fault.WordFault.{WordFault}
 use Rattle.sheet_faults.specs.declared.fault.WordFault.TheVariants as word
@@ -8,17 +8,6 @@ use Rattle.sheet_faults.specs.declared.fault.NameFault.{NameFault}
 use Rattle.sheet_faults.specs.declared.fault.NameFault.TheVariants as name
 use Rattle.sheet_faults.specs.declared.fault.SheetFault.{SheetFault}
 use Rattle.sheet_faults.specs.declared.fault.SheetFault.TheVariants as sheet
-
--- the question
-abbrev pub asked : SheetFault → List ℕ
-asked sheet.TooLong = codes "Has the sheet at most 4,096 bytes?"
-asked (sheet.ForeignByte p) = codes "Is every byte 10 or from 32 to 126?"
-asked (sheet.NoKeyword p) = codes "Is the first word a keyword, after no watch line?"
-asked (sheet.AfterWatch p) = codes "Is the first word a keyword, after no watch line?"
-asked (sheet.Name f) = codes "Has the line a second word that is free, not reserved and at most 16 bytes long?"
-asked (sheet.Formula f) = codes "Is the rest of the line exactly one formula, or nothing on a signal line?"
-asked (sheet.TooMany p) = codes "Are there at most 32 signals and 64 rows?"
-asked (sheet.NoWatch p) = codes "Was there a watch line?"
 
 -- what is wrong
 abbrev pub shown_word : WordFault → List ℕ

@@ -4,7 +4,7 @@ ghost use Rattle.sheet_faults.specs.Faults.{word_refusal, formula_refusal, name_
 ghost use Rattle.sheet_faults.specs.declared.fault.FormulaFault.TheVariants.{Word as OfWord};
 ghost use Rattle.sheet_faults.specs.declared.fault.SheetFault.TheVariants.{Formula as OfFormula, Name as OfName};
 
-use ltl::refusal::{Part, Refusal};
+use ltl::refusal::{Question, Refusal};
 
 /// Why a word does not continue a formula.
 #[derive(Clone, Copy, PartialEq, Eq, Debug)]
@@ -61,77 +61,79 @@ pub enum SheetFault {
 #[derive(Clone, Copy, PartialEq, Eq, Debug)]
 pub struct NoSuchRow;
 
-/// A refusal of the sheet.
-fn of_sheet(question: u8, place: usize) -> Refusal
-    ensures { result ≡ record { question = question; part = Part.Sheet; place = place } }
-{
-    Refusal {
-        question,
-        part: Part::Sheet,
-        place,
-    }
-}
-
 impl WordFault {
-    /// The question answered no, its part and its place.
+    /// The question answered no and its place.
     pub fn refusal(self) -> Refusal
         ensures { result ≡ word_refusal self }
     {
-        match self {
-            WordFault::Unknown { at } | WordFault::Missing { at } => of_sheet(5, at),
+        let (WordFault::Unknown { at: place } | WordFault::Missing { at: place }) = self;
+        Refusal {
+            question: Question::OneFormula,
+            place,
         }
     }
 }
 
 impl FormulaFault {
-    /// The question answered no, its part and its place.
+    /// The question answered no and its place.
     pub fn refusal(self) -> Refusal
         ensures { result ≡ formula_refusal self }
     {
         match self {
             FormulaFault::Word(fault) => fault.refusal(),
-            FormulaFault::NoOperator { at } | FormulaFault::Surplus { at } => of_sheet(5, at),
+            FormulaFault::NoOperator { at: place } | FormulaFault::Surplus { at: place } => {
+                Refusal {
+                    question: Question::OneFormula,
+                    place,
+                }
+            }
         }
     }
 }
 
 impl NameFault {
-    /// The question answered no, its part and its place.
+    /// The question answered no and its place.
     pub fn refusal(self) -> Refusal
         ensures { result ≡ name_refusal self }
     {
-        match self {
-            NameFault::Missing { at } | NameFault::Reserved { at } => of_sheet(4, at),
-            NameFault::Taken { at } | NameFault::TooLong { at } => of_sheet(4, at),
+        let (NameFault::Missing { at: place }
+        | NameFault::Reserved { at: place }
+        | NameFault::Taken { at: place }
+        | NameFault::TooLong { at: place }) = self;
+        Refusal {
+            question: Question::NewName,
+            place,
         }
     }
 }
 
 impl SheetFault {
-    /// The question answered no, its part and its place.
+    /// The question answered no and its place.
     pub fn refusal(self) -> Refusal
         ensures { result ≡ sheet_refusal self }
     {
-        match self {
-            SheetFault::TooLong => of_sheet(1, 4096),
-            SheetFault::ForeignByte { at } => of_sheet(2, at),
-            SheetFault::NoKeyword { at } | SheetFault::AfterWatch { at } => of_sheet(3, at),
-            SheetFault::Name(fault) => fault.refusal(),
-            SheetFault::Formula(fault) => fault.refusal(),
-            SheetFault::TooMany { at } => of_sheet(6, at),
-            SheetFault::NoWatch { at } => of_sheet(7, at),
-        }
+        let (question, place) = match self {
+            SheetFault::TooLong => (Question::SheetLength, 4096),
+            SheetFault::ForeignByte { at } => (Question::SheetBytes, at),
+            SheetFault::NoKeyword { at } | SheetFault::AfterWatch { at } => {
+                (Question::FirstWord, at)
+            }
+            SheetFault::Name(fault) => return fault.refusal(),
+            SheetFault::Formula(fault) => return fault.refusal(),
+            SheetFault::TooMany { at } => (Question::SheetRows, at),
+            SheetFault::NoWatch { at } => (Question::WatchLine, at),
+        };
+        Refusal { question, place }
     }
 }
 
 impl NoSuchRow {
-    /// The question answered no, its part and its place.
+    /// The question answered no and its place.
     pub fn refusal(self) -> Refusal
         ensures { result ≡ row_refusal }
     {
         Refusal {
-            question: 15,
-            part: Part::Watch,
+            question: Question::RowNumber,
             place: 0,
         }
     }

@@ -1,34 +1,12 @@
 //! Refusals in words.
-ghost use Rattle.std.specs.Prelude.{◌≡◌, Some};
-ghost use Rattle.sheet_faults.specs.Shown.{asked, shown_word, shown_formula, shown_name, shown_sheet};
+ghost use Rattle.std.specs.Prelude.{Some};
+ghost use Rattle.sheet_faults.specs.Shown.{shown_word, shown_formula, shown_name, shown_sheet};
 
 use crate::fault::{FormulaFault, NameFault, SheetFault, WordFault};
 use std::error::Error;
 use std::fmt;
 
-impl SheetFault {
-    /// The question answered no, in words.
-    pub fn question(self) -> &'static str
-        ensures { result.now ≡ asked self }
-    {
-        match self {
-            SheetFault::TooLong => "Has the sheet at most 4,096 bytes?",
-            SheetFault::ForeignByte { at: _ } => "Is every byte 10 or from 32 to 126?",
-            SheetFault::NoKeyword { at: _ } | SheetFault::AfterWatch { at: _ } => {
-                "Is the first word a keyword, after no watch line?"
-            }
-            SheetFault::Name(_) => {
-                "Has the line a second word that is free, not reserved and at most 16 bytes long?"
-            }
-            SheetFault::Formula(_) => {
-                "Is the rest of the line exactly one formula, or nothing on a signal line?"
-            }
-            SheetFault::TooMany { at: _ } => "Are there at most 32 signals and 64 rows?",
-            SheetFault::NoWatch { at: _ } => "Was there a watch line?",
-        }
-    }
-}
-
+// Display is written by hand: the derive `thiserror::Error` promises nothing of the text.
 impl fmt::Display for WordFault {
     ghost output = { λ e. Some (shown_word e) };
 

@@ -1,15 +1,22 @@
 -- A search for the first byte that a sheet may not hold.
-use Rattle.std.proofs.Common.{◌≡◌, ℕ, suc, ◌+◌, ◌<◌, ◌≤◌, true, false, cond, List, length, get_or, drop, Some, None, sym, ap, ◌∙◌, add-one}
-use Rattle.std.proofs.lemmas.List.{drop_more, drop_all}
+use Rattle.std.proofs.Common.{◌≡◌, ℕ, suc, ◌+◌, Bool, true, false, cond, not, List, [], ◌∷◌, Option, Some, refl, ap, ◌∙◌, sym, add-one}
+use Rattle.std.proofs.lemmas.Iterator.Adapters.{position_from-zero}
+use Rattle.std.specs.List.{position, position_from}
+use Rattle.std.specs.Option.{option_map}
 use Rattle.sheet_reader.specs.Sheets.{allowed, foreign_byte}
+use Rattle.sheet_faults.specs.declared.fault.SheetFault.{SheetFault}
 use Rattle.sheet_faults.specs.declared.fault.SheetFault.TheVariants.{ForeignByte}
 
-module _ (s : List ℕ) (i : ℕ) where
-  pub foreign_hit : i < length s → allowed (get_or s i 0) ≡ false → foreign_byte i (drop i s) ≡ Some (ForeignByte i)
-  foreign_hit h e = ap (foreign_byte i) (drop_more s i 0 h) ∙ ap (λ b. cond b (foreign_byte (suc i) (drop (i + 1) s)) (Some (ForeignByte i))) e
+-- the first byte, and what is found behind it
+step : (a : Bool) (p : ℕ) (found : Option ℕ) (rest : Option SheetFault) → option_map ForeignByte found ≡ rest → option_map ForeignByte (cond (not a) (Some p) found) ≡ cond a rest (Some (ForeignByte p))
+step true p found rest e = e
+step false p found rest e = refl
 
-  pub foreign_on : i < length s → allowed (get_or s i 0) ≡ true → foreign_byte i (drop i s) ≡ foreign_byte (i + 1) (drop (i + 1) s)
-  foreign_on h e = ap (foreign_byte i) (drop_more s i 0 h) ∙ ap (λ b. cond b (foreign_byte (suc i) (drop (i + 1) s)) (Some (ForeignByte i))) e ∙ ap (λ k. foreign_byte k (drop (i + 1) s)) (sym (add-one i))
+foreign_at : (p : ℕ) (s : List ℕ) → option_map ForeignByte (position_from (λ b. not (allowed b)) p s) ≡ foreign_byte p s
+foreign_at p [] = refl
+foreign_at p (b ∷ bs) =
+    step (allowed b) p (position_from (λ b. not (allowed b)) (p + 1) bs) (foreign_byte (suc p) bs)
+    (foreign_at (p + 1) bs ∙ ap (λ k. foreign_byte k bs) (add-one p))
 
-  pub foreign_end : length s ≤ i → foreign_byte i (drop i s) ≡ None
-  foreign_end h = ap (foreign_byte i) (drop_all i s h)
+pub foreign_is : (s : List ℕ) → foreign_byte 0 s ≡ option_map ForeignByte (position (λ b. not (allowed b)) s)
+foreign_is s = sym (ap (option_map ForeignByte) (position_from-zero (λ b. not (allowed b)) s) ∙ foreign_at 0 s)

@@ -1,32 +1,26 @@
 -- Rows pushed onto a draft, of which the first 64 are kept.
-use Rattle.std.proofs.Common.{◌≡◌, ℕ, zero, suc, ◌+◌, ◌<◌, ◌≤◌, List, [], ◌∷◌, ◌++◌, length, get_or, take, drop, set, sym, refl, ap, ◌∙◌, subst, append_assoc, append-nil, add-one, arith, length-append, length-take-le, take_all, take-suc-set}
+use Rattle.std.proofs.Common.{◌≡◌, ℕ, zero, suc, ◌+◌, ◌<◌, ◌≤◌, List, [], ◌∷◌, ◌++◌, length, get_or, take, drop, min, sym, refl, ap, ◌∙◌, subst, append_assoc, append-nil, arith, length-append, take_all}
 use lib.Seq.{take-append-le}
 use Rattle.std.proofs.lemmas.List.{drop_more, drop-drop, drop_all}
 use Rattle.ltl.specs.declared.row.Row.{Row}
 use Rattle.ltl.specs.declared.row.Row.TheVariants.{Signal}
-use Rattle.sheet_reader.specs.Drafts.{Agree}
+use Rattle.sheet_reader.specs.Drafts.{kept, Agree}
+use Rattle.sheet_reader.specs.declared.reading.Draft.{Draft}
 
-stored : (rows : List Row) (n : ℕ) (r : Row) → length rows ≡ 64 → n < 64 → take (n + 1) (set rows n r) ≡ take 64 (take n rows ++ r ∷ [])
-stored rows n r l h =
-    let n_in : n < length rows = omega arith in
-    let long : length (take n rows ++ r ∷ []) ≤ 64 = simp length-append (omega (arith, length-take-le n rows (omega arith))) in
-    rw add-one (take-suc-set rows n r n_in ∙ sym (take_all 64 (take n rows ++ r ∷ []) long))
-
-passed : (rows : List Row) (n : ℕ) (r : Row) → length rows ≡ 64 → 64 ≤ n → take (n + 1) rows ≡ take 64 (take n rows ++ r ∷ [])
-passed rows n r l h =
-    let a = take_all (n + 1) rows (omega arith) in
-    let b = take_all n rows (omega arith) in
-    rw (a, b) (sym (take-append-le 64 rows (r ∷ []) (omega arith) ∙ take_all 64 rows (omega arith)))
-
--- what `push` leaves: the table's length, and what is kept, whatever a row is that is not kept
+-- what `push` leaves, whatever a row is that is not kept
 abbrev pub Pushed : List Row → ℕ → Row → List Row → Type 0
-Pushed rows n r after = (x : Row) → (n < 64 → r ≡ x) → take (n + 1) after ≡ take 64 (take n rows ++ x ∷ [])
+Pushed k n r after = (x : Row) → (n < 64 → r ≡ x) → after ≡ take 64 (k ++ x ∷ [])
 
-pub pushed_then : (rows : List Row) (n : ℕ) (r : Row) (after : List Row) → length rows ≡ 64 → n < 64 → after ≡ set rows n r → Pushed rows n r after
-pushed_then rows n r after l h e x same = rw e (stored rows n r l h) ∙ ap (λ y. take 64 (take n rows ++ y ∷ [])) (same h)
+pub pushed_in : (k : List Row) (n : ℕ) (r : Row) (after : List Row) → length k ≡ min n 64 → length k < 64 → after ≡ k ++ r ∷ [] → Pushed k n r after
+pushed_in k n r after l h e x same =
+    let long : length (k ++ r ∷ []) ≤ 64 = simp length-append (omega arith) in
+    e ∙ sym (take_all 64 (k ++ r ∷ []) long) ∙ ap (λ y. take 64 (k ++ y ∷ [])) (same (omega arith))
 
-pub pushed_else : (rows : List Row) (n : ℕ) (r : Row) (after : List Row) → length rows ≡ 64 → 64 ≤ n → after ≡ rows → Pushed rows n r after
-pushed_else rows n r after l h e x same = rw e (passed rows n x l h)
+pub pushed_out : (k : List Row) (n : ℕ) (r : Row) (after : List Row) → length k ≡ 64 → after ≡ k → Pushed k n r after
+pushed_out k n r after l e x same = e ∙ sym (take-append-le 64 k (x ∷ []) (omega arith) ∙ take_all 64 k (omega arith))
+
+pub kept_few : (d : Draft) → length (kept d) ≤ 64
+kept_few d = rw d.kept (omega arith)
 
 -- what is kept of what is kept
 take_again : (k : ℕ) (xs ys : List Row) → take k (take k xs ++ ys) ≡ take k (xs ++ ys)

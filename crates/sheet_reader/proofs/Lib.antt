@@ -1,4 +1,3 @@
-pub mod Searches
 pub mod Drafts
 pub mod Forests
 pub mod Grammar
@@ -7,7 +6,7 @@ pub mod Wholes
 pub mod Questions
 pub mod Lines
 pub mod Ordered
-pub mod Sound
+pub mod Sounds
 pub mod Plans
 pub mod Meant
 pub mod Accepted
@@ -15,3 +14,5 @@ pub mod Wrong
 pub mod Examples
 pub mod Promises
 pub mod Bytes
+pub mod Searches
+pub mod Counts

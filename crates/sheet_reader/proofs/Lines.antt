@@ -48,7 +48,7 @@ module _ (sheet : List ℕ) (st : State) (p : ℕ) (end : ℕ) where
       let r = room_yes p (with_watch t st) st' c.2 in
       record { formula = t; spells = formula_yes sheet st.names ws end t (formula_ok (ask_formula sheet st.names ws end) t c.1); makes = r.0; room = r.1 }
 
-  by_yes : (k : Keyword) (ws : List Part) (st' : State) → by_keyword sheet st p k ws end ≡ Ok st' → LineBy k sheet st ws st'
+  pub by_yes : (k : Keyword) (ws : List Part) (st' : State) → by_keyword sheet st p k ws end ≡ Ok st' → LineBy k sheet st ws st'
   by_yes key.Signal ws st' e = signal_yes ws st' e
   by_yes key.Name ws st' e = name_line_yes ws st' e
   by_yes key.Watch ws st' e = watch_yes ws st' e

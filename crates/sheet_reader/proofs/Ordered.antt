@@ -14,7 +14,7 @@ use Rattle.sheet.specs.declared.token.Binary.TheVariants as binary
 use Rattle.sheet_reader.specs.Grammar.{Written, earlier, one, two, Symbol, takes0, spelt, bare, symbol, symbols, known}
 use Rattle.sheet_reader.specs.Lines.{Operated}
 use Rattle.sheet_reader.specs.Rows.{rows1, rows2, size1, size2, size, top, made}
-use Rattle.sheet_reader.specs.States.{Ordered}
+use Rattle.sheet_reader.specs.Sound.{Ordered}
 use Rattle.sheet_reader.proofs.Forests.{zero_one}
 use Rattle.sheet_reader.proofs.Prefix.{few1, few2}
 

@@ -1,15 +1,15 @@
 -- What the line reader does to a plan, against what a line is said to do to a state.
-use Rattle.std.proofs.Common.{◌≡◌, ℕ, ◌+◌, ◌-◌, ◌<◌, ◌≤◌, Bool, true, false, cond, ◌&&◌, leb, ◌⊎◌, List, ◌∷◌, ◌++◌, length, take, drop, Ok, Err, sym, refl, ap, ◌∙◌, inl, inr, ⊎_elim, arith, length-append, length-take-le, take_all}
+use Rattle.std.proofs.Common.{◌≡◌, ℕ, ◌+◌, ◌<◌, ◌≤◌, Bool, true, false, cond, ◌&&◌, leb, ◌⊎◌, List, [], ◌∷◌, ◌++◌, length, take, Option, Some, Ok, Err, sym, refl, add-one, subst, ap, ◌∙◌, inl, inr, ⊎_elim, arith, length-append, take_all}
 use Rattle.std.proofs.lemmas.Bool.{lt-leb}
-use Rattle.std.proofs.lemmas.List.{take_rest}
+use Rattle.std.proofs.lemmas.List.{length_push}
 use Rattle.ltl.specs.declared.row.Row.{Row}
-use Rattle.sheet.specs.Parts.{Part, parts}
+use Rattle.sheet.specs.Parts.{Part}
 use Rattle.sheet.specs.Tokens.{token_of}
 use Rattle.sheet.specs.declared.token.Keyword.{Keyword}
 use Rattle.sheet.specs.declared.token.Keyword.TheVariants as key
-use Rattle.sheet_reader.specs.Drafts.{kept, Added}
+use Rattle.sheet_reader.specs.Drafts.{kept, Added, Known, Whole}
 use Rattle.sheet_reader.specs.Grammar.{Written}
-use Rattle.sheet_reader.specs.Names.{names_in}
+use Rattle.sheet_reader.specs.Names.{named, names_in}
 use Rattle.sheet_reader.specs.Rows.{size, top, made}
 use Rattle.sheet_reader.specs.Sheets.{State, and_then, ask_name, ask_nothing, ask_operator, ask_formula, ask_room, with_signal, with_named, with_watch, words, end_of, ask_keyword, by_keyword, by_words, by_lines}
 use Rattle.sheet_faults.specs.declared.fault.FormulaFault.{FormulaFault}
@@ -17,15 +17,16 @@ use Rattle.sheet_faults.specs.declared.fault.SheetFault.{SheetFault}
 use Rattle.sheet_faults.specs.declared.fault.SheetFault.TheVariants.{Formula, TooMany}
 use Rattle.sheet_reader.specs.declared.reading.Draft.{Draft}
 use Rattle.sheet_reader.specs.declared.reading.Name.{Name}
-use Rattle.sheet_reader.specs.declared.reading.Names.{Names}
 use Rattle.sheet_reader.proofs.Ordered.{length_made}
-use Rattle.sheet_reader.proofs.Prefix.{end_at}
-use Rattle.sheet_reader.proofs.Questions.{operator_yes, formula_yes}
-use Rattle.sheet_reader.proofs.Sound.{operated_size}
+use Rattle.sheet_reader.proofs.Questions.{operator_yes, formula_yes, yes_room}
+use Rattle.sheet_reader.proofs.Sounds.{operated_size, known_from}
+use Rattle.sheet_reader.specs.States.{state_of}
+use Rattle.sheet_reader.specs.declared.reading.Plan.{Plan}
+use Rattle.ltl.specs.declared.row.Row.TheVariants.{Signal}
 
 -- a draft of at most 64 rows keeps them all
 pub kept_all : (d : Draft) → d.count ≤ 64 → length (kept d) ≡ d.count
-kept_all d h = length-take-le d.count d.rows (omega (arith, d.sized))
+kept_all d h = d.kept ∙ omega (arith, h)
 
 room_cut : (a b : Bool) (p : ℕ) (st : State) → (a ≡ false) ⊎ (b ≡ false) → cond (a && b) (Ok st) (Err (TooMany p)) ≡ Err (TooMany p)
 room_cut false b p st h = refl
@@ -81,19 +82,68 @@ added_row d few a = rw (kept_all d few) a.number
 pub named_size : (sheet : List ℕ) (names : List Name) (xs : List Part) (end : ℕ) (t : Written) → ask_operator xs end ≡ Ok tt → ask_formula sheet names xs end ≡ Ok t → 0 < size t
 named_size sheet names xs end t o q = operated_size t (operator_yes sheet names xs end t o (formula_yes sheet names xs end t q))
 
-pub names_count : (x : Names) → length (names_in x) ≡ x.len
-names_count x = length-take-le x.len x.table (omega (arith, x.few, x.sized))
+abbrev pub making : List Row → List Name → ℕ → Option ℕ → State
+making rows names width watch = record { rows = rows; names = names; width = width; watch = watch }
 
--- the questions about a formula are those about the rest of the line
-module _ (sheet : List ℕ) (names : List Name) (s : List ℕ) (base used : ℕ) (h : used ≤ length s) where
-  pub operator_rest : ask_operator (parts 32 (base + used) (drop used s)) (base + length s) ≡ ask_operator (parts 32 (base + used) (take (length s - used) (drop used s))) (base + used + length (take (length s - used) (drop used s)))
-  operator_rest = sym (ap (λ e. ask_operator (parts 32 (base + used) (take (length s - used) (drop used s))) e) (end_at sheet names s base used h) ∙ ap (λ l. ask_operator (parts 32 (base + used) l) (base + length s)) (take_rest s used))
+-- what a line that is accepted makes of a plan
+module _ (sheet : List ℕ) (p : Plan) (first : ℕ) (ws : List Part) (end : ℕ) where
+  pub signal_makes : (w : Part) (xs : List Part) {rows : List Row} {names : List Name} → ask_name sheet (names_in p.names) ws end ≡ Ok (w, xs) → ask_nothing xs ≡ Ok tt → p.width < 32 → p.draft.count < 64 → rows ≡ take 64 (kept p.draft ++ Signal p.width ∷ []) → names ≡ names_in p.names ++ named w p.draft.count ∷ [] → Ok (making rows names (p.width + 1) p.watch) ≡ by_keyword sheet (state_of p) first key.Signal ws end
+  signal_makes w xs e o signals some r n =
+      let st = state_of p in
+      let all = kept_all p.draft p.counted in
+      let more = length_push st.rows (Signal st.width) in
+      let room = yes_room first (with_signal w st) (record { signals = omega arith; rows = omega arith }) in
+      let rows = r ∙ take_all 64 (st.rows ++ Signal st.width ∷ []) (omega arith) in
+      let names = n ∙ ap (λ r. names_in p.names ++ named w r ∷ []) (sym all) in
+      ap Ok (same_state _ (with_signal w st) rows names (add-one p.width) refl) ∙ sym (signal_by sheet st first end ws w xs e o ∙ room)
 
-  pub formula_rest : ask_formula sheet names (parts 32 (base + used) (drop used s)) (base + length s) ≡ ask_formula sheet names (parts 32 (base + used) (take (length s - used) (drop used s))) (base + used + length (take (length s - used) (drop used s)))
-  formula_rest = sym (ap (λ e. ask_formula sheet names (parts 32 (base + used) (take (length s - used) (drop used s))) e) (end_at sheet names s base used h) ∙ ap (λ l. ask_formula sheet names (parts 32 (base + used) l) (base + length s)) (take_rest s used))
+  pub name_makes : (w : Part) (xs : List Part) {e n' row : ℕ} {k' : List Row} {names : List Name} → ask_name sheet (names_in p.names) ws end ≡ Ok (w, xs) → e ≡ end → ask_operator xs e ≡ Ok tt → Whole sheet (names_in p.names) xs e p.draft.count (kept p.draft) n' k' row → n' ≤ 64 → names ≡ names_in p.names ++ named w row ∷ [] → Ok (making k' names p.width p.watch) ≡ by_keyword sheet (state_of p) first key.Name ws end
+  name_makes w xs {n' = n'} e same o f few n =
+      let st = state_of p in
+      let yes = subst (λ e. ask_operator xs e ≡ Ok tt) same o in
+      let asked = subst (λ e. ask_formula sheet st.names xs e ≡ Ok f.formula) same f.asked in
+      let t = f.formula in
+      let long = added_count p.draft p.counted f.added in
+      let room = yes_room first (with_named w t st) (record { signals = p.sound.few_signals; rows = omega arith }) in
+      let rows = added_rows p.draft p.counted f.added few in
+      let names = n ∙ ap (λ r. names_in p.names ++ named w r ∷ []) (added_row p.draft p.counted f.added) in
+      ap Ok (same_state _ (with_named w t st) rows names refl refl) ∙ sym (name_by sheet st first end ws w xs t e yes asked ∙ room)
 
-  pub keyword_rest : (st : State) (p : ℕ) (k : Keyword) → by_keyword sheet st p k (parts 32 (base + used) (take (length s - used) (drop used s))) (base + used + length (take (length s - used) (drop used s))) ≡ by_keyword sheet st p k (parts 32 (base + used) (drop used s)) (base + length s)
-  keyword_rest st p k = ap (λ e. by_keyword sheet st p k (parts 32 (base + used) (take (length s - used) (drop used s))) e) (end_at sheet names s base used h) ∙ ap (λ l. by_keyword sheet st p k (parts 32 (base + used) l) (base + length s)) (take_rest s used)
+  pub watch_makes : {n' row : ℕ} {k' : List Row} → Whole sheet (names_in p.names) ws end p.draft.count (kept p.draft) n' k' row → n' ≤ 64 → Ok (making k' (names_in p.names) p.width (Some row)) ≡ by_keyword sheet (state_of p) first key.Watch ws end
+  watch_makes {n'} f few =
+      let st = state_of p in
+      let t = f.formula in
+      let long = added_count p.draft p.counted f.added in
+      let room = yes_room first (with_watch t st) (record { signals = p.sound.few_signals; rows = omega arith }) in
+      let rows = added_rows p.draft p.counted f.added few in
+      ap Ok (same_state _ (with_watch t st) rows refl refl (ap Some (added_row p.draft p.counted f.added))) ∙ sym (watch_by sheet st first end ws t f.asked ∙ room)
+
+  -- an operator makes a row, so there is room for one name more
+  pub name_room : (xs : List Part) {e n' row : ℕ} {k' : List Row} → ask_operator xs e ≡ Ok tt → Whole sheet (names_in p.names) xs e p.draft.count (kept p.draft) n' k' row → n' ≤ 64 → length (names_in p.names) < 64
+  name_room xs {e} o f few =
+      let some = named_size sheet (names_in p.names) xs e f.formula o f.asked in
+      omega (arith, f.added.count, p.sound.few_names, kept_all p.draft p.counted)
+
+  -- with too many rows
+  pub name_full : (w : Part) (xs : List Part) {e n' row : ℕ} {k' : List Row} → ask_name sheet (names_in p.names) ws end ≡ Ok (w, xs) → e ≡ end → ask_operator xs e ≡ Ok tt → Whole sheet (names_in p.names) xs e p.draft.count (kept p.draft) n' k' row → 64 < n' → Err (TooMany first) ≡ by_keyword sheet (state_of p) first key.Name ws end
+  name_full w xs {n' = n'} e same o f many =
+      let st = state_of p in
+      let yes = subst (λ e. ask_operator xs e ≡ Ok tt) same o in
+      let asked = subst (λ e. ask_formula sheet st.names xs e ≡ Ok f.formula) same f.asked in
+      let t = f.formula in
+      let long = added_count p.draft p.counted f.added in
+      sym (name_by sheet st first end ws w xs t e yes asked ∙ no_room first (with_named w t st) (inr (omega arith)))
+
+  pub watch_full : {n' row : ℕ} {k' : List Row} → Whole sheet (names_in p.names) ws end p.draft.count (kept p.draft) n' k' row → 64 < n' → Err (TooMany first) ≡ by_keyword sheet (state_of p) first key.Watch ws end
+  watch_full {n'} f many =
+      let st = state_of p in
+      let t = f.formula in
+      let long = added_count p.draft p.counted f.added in
+      sym (watch_by sheet st first end ws t f.asked ∙ no_room first (with_watch t st) (inr (omega arith)))
+
+-- the rows of the earlier names are below the draft's count
+pub known_in : (sheet : List ℕ) (p : Plan) → Known sheet (names_in p.names) p.draft.count
+known_in sheet p t r e = omega (arith, known_from sheet (names_in p.names) (length (kept p.draft)) p.sound.named t r e, kept_all p.draft p.counted)
 
 -- a line by its keyword
 pub words_by : (sheet : List ℕ) (st : State) (ws : List Part) (end : ℕ) (w : Part) (xs : List Part) (k : Keyword) → ws ≡ w ∷ xs → Ok k ≡ ask_keyword st.watch w.at (token_of w.text w.at) → by_words sheet st ws end ≡ by_keyword sheet st w.at k xs end

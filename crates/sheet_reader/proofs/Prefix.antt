@@ -1,17 +1,17 @@
 -- One step of the prefix reader, over the words.
-use Rattle.std.proofs.Common.{◌≡◌, ℕ, suc, ◌+◌, ◌-◌, ◌<◌, ◌≤◌, List, ◌∷◌, ◌++◌, length, take, drop, Option, sym, refl, ap, ◌∙◌, subst, subst₂, append_assoc, append-nil, add_assoc, arith, length-drop, length-take, take_all}
-use Rattle.std.proofs.lemmas.List.{take_rest, drop-drop}
+use Rattle.std.proofs.Common.{◌≡◌, ℕ, suc, ◌+◌, ◌-◌, ◌<◌, ◌≤◌, List, ◌∷◌, ◌++◌, length, take, Option, sym, refl, ap, ◌∙◌, subst, append_assoc, append-nil, arith, take_all}
 use Rattle.ltl.specs.declared.row.Row.{Row}
-use Rattle.sheet.specs.Parts.{part, parts}
+use Rattle.sheet.specs.Parts.{Part, part}
 use Rattle.sheet.specs.Tokens.{operator, name, token_of}
 use Rattle.sheet.specs.declared.token.Operator.TheVariants.{One, Two}
 use Rattle.sheet.specs.declared.token.Unary.{Unary}
 use Rattle.sheet.specs.declared.token.Unary.TheVariants as unary
 use Rattle.sheet.specs.declared.token.Binary.{Binary}
 use Rattle.sheet.specs.declared.token.Binary.TheVariants as binary
-use Rattle.sheet_reader.specs.Drafts.{Got, Bad, line}
-use Rattle.sheet_reader.specs.Grammar.{earlier, one, two, Symbol, takes0, takes1, takes2, spelt, wrong, bare, symbol, symbols, known}
+use Rattle.sheet_reader.specs.Drafts.{Got, Bad}
+use Rattle.sheet_reader.specs.Grammar.{earlier, one, two, Symbol, takes0, takes1, takes2, spelt, wrong, bare, symbol, known}
 use Rattle.sheet_reader.specs.Names.{row_named}
+use Rattle.sheet_reader.specs.Sheets.{symbols_of}
 use Rattle.sheet_reader.specs.Rows.{size, size1, size2, top, made, rows1, rows2}
 use Rattle.sheet_faults.specs.declared.fault.FormulaFault.{FormulaFault}
 use Rattle.sheet_reader.specs.declared.reading.Name.{Name}
@@ -69,38 +69,20 @@ got_two {ws₃ = ws₃} {end = end} {n = n} {n₁ = n₁} {n₂ = n₂} {a = a} 
       };
     }
 
--- the first word of a part of a line
-module _ (sheet : List ℕ) (names : List Name) (s s' : List ℕ) (base b' : ℕ) {t : List ℕ} {p : ℕ} (cut : parts 32 base s ≡ part t p ∷ parts 32 b' s') where
-  pub word_one : {u : Unary} → operator (One u) ≡ token_of t p → line sheet names base s ≡ (takes1 u, p) ∷ line sheet names b' s'
-  word_one e = ap (symbols (row_named sheet names)) cut ∙ ap (λ x. (symbol (row_named sheet names) x, p) ∷ line sheet names b' s') (sym e)
+-- the same up to an end that is said to be another
+pub got_end : {ws ws' : List (Symbol × ℕ)} {end e n n' row : ℕ} {k k' : List Row} → e ≡ end → Got ws ws' e n k n' k' row → Got ws ws' end n k n' k' row
+got_end {ws} {ws'} {n = n} {n' = n'} {row = row} {k = k} {k' = k'} same g = subst (λ e. Got ws ws' e n k n' k' row) same g
 
-  pub word_two : {o : Binary} → operator (Two o) ≡ token_of t p → line sheet names base s ≡ (takes2 o, p) ∷ line sheet names b' s'
-  word_two e = ap (symbols (row_named sheet names)) cut ∙ ap (λ x. (symbol (row_named sheet names) x, p) ∷ line sheet names b' s') (sym e)
+-- the first of some words
+module _ (sheet : List ℕ) (names : List Name) {ws ws' : List Part} {t : List ℕ} {p : ℕ} (cut : ws ≡ part t p ∷ ws') where
+  pub word_one : {u : Unary} → operator (One u) ≡ token_of t p → symbols_of sheet names ws ≡ (takes1 u, p) ∷ symbols_of sheet names ws'
+  word_one e = ap (symbols_of sheet names) cut ∙ ap (λ x. (symbol (row_named sheet names) x, p) ∷ symbols_of sheet names ws') (sym e)
 
-  pub word_name : {v : List ℕ} {q : ℕ} (o : Option ℕ) → name v q ≡ token_of t p → row_named sheet names v ≡ o → line sheet names base s ≡ (known o, p) ∷ line sheet names b' s'
-  word_name {v} o e f = ap (symbols (row_named sheet names)) cut ∙ ap (λ x. (symbol (row_named sheet names) x, p) ∷ line sheet names b' s') (sym e) ∙ ap (λ x. (known x, p) ∷ line sheet names b' s') f
+  pub word_two : {o : Binary} → operator (Two o) ≡ token_of t p → symbols_of sheet names ws ≡ (takes2 o, p) ∷ symbols_of sheet names ws'
+  word_two e = ap (symbols_of sheet names) cut ∙ ap (λ x. (symbol (row_named sheet names) x, p) ∷ symbols_of sheet names ws') (sym e)
 
--- the words past the first bytes
-module _ (sheet : List ℕ) (names : List Name) (s : List ℕ) (base used : ℕ) (h : used ≤ length s) where
-  pub end_at : base + used + length (take (length s - used) (drop used s)) ≡ base + length s
-  end_at = simp (take_rest, length-drop) (omega arith)
-
-  pub got_at : (more : ℕ) {n n' row : ℕ} {k k' : List Row} → Got (line sheet names (base + used) (take (length s - used) (drop used s))) (line sheet names (base + used + more) (drop more (take (length s - used) (drop used s)))) (base + used + length (take (length s - used) (drop used s))) n k n' k' row → Got (line sheet names (base + used) (drop used s)) (line sheet names (base + (used + more)) (drop (used + more) s)) (base + length s) n k n' k' row
-  got_at more {n} {n'} {row} {k} {k'} g =
-      let P : List ℕ → ℕ → Type 0 = λ l e. Got (line sheet names (base + used) l) (line sheet names (base + used + more) (drop more l)) e n k n' k' row in
-      let g₁ = subst (λ l. P l (base + length s)) (take_rest s used) (subst (P (take (length s - used) (drop used s))) end_at g) in
-      subst₂ (λ b l. Got (line sheet names (base + used) (drop used s)) (line sheet names b l) (base + length s) n k n' k' row) (add_assoc base used more) (drop-drop more used s) g₁
-
-  -- the same of a part that is said to be these bytes at this place
-  pub got_rest : (more : ℕ) {text : List ℕ} {at n n' row : ℕ} {k k' : List Row} → text ≡ take (length s - used) (drop used s) → at ≡ base + used → Got (line sheet names at text) (line sheet names (at + more) (drop more text)) (at + length text) n k n' k' row → Got (line sheet names (base + used) (drop used s)) (line sheet names (base + (used + more)) (drop (used + more) s)) (base + length s) n k n' k' row
-  got_rest more {n = n} {n' = n'} {row = row} {k = k} {k' = k'} t a g =
-      got_at more (subst₂ (λ x y. Got (line sheet names y x) (line sheet names (y + more) (drop more x)) (y + length x) n k n' k' row) t a g)
-
-  pub bad_at : (q : FormulaFault) → Bad (line sheet names (base + used) (take (length s - used) (drop used s))) (base + used + length (take (length s - used) (drop used s))) q → Bad (line sheet names (base + used) (drop used s)) (base + length s) q
-  bad_at q b = subst₂ (λ l e. Bad (line sheet names (base + used) l) e q) (take_rest s used) end_at b
-
-  pub bad_rest : (q : FormulaFault) {text : List ℕ} {at : ℕ} → text ≡ take (length s - used) (drop used s) → at ≡ base + used → Bad (line sheet names at text) (at + length text) q → Bad (line sheet names (base + used) (drop used s)) (base + length s) q
-  bad_rest q t a b = bad_at q (subst₂ (λ x y. Bad (line sheet names y x) (y + length x) q) t a b)
+  pub word_name : {v : List ℕ} {q : ℕ} (o : Option ℕ) → name v q ≡ token_of t p → row_named sheet names v ≡ o → symbols_of sheet names ws ≡ (known o, p) ∷ symbols_of sheet names ws'
+  word_name {v} o e f = ap (symbols_of sheet names) cut ∙ ap (λ x. (symbol (row_named sheet names) x, p) ∷ symbols_of sheet names ws') (sym e) ∙ ap (λ x. (known x, p) ∷ symbols_of sheet names ws') f
 
 pub few1 : (u : Unary) → (0 < size1 u) × (size1 u ≤ 4)
 few1 unary.Not = omega arith
@@ -113,12 +95,3 @@ few2 binary.Or = omega arith
 few2 binary.And = omega arith
 few2 binary.Implies = omega arith
 few2 binary.Until = omega arith
-
-pub kept_few : (n : ℕ) (rows : List Row) → length rows ≡ 64 → length (take n rows) ≤ 64
-kept_few n rows h = simp length-take (omega arith)
-
-pub both_in : (s : List ℕ) (used more : ℕ) → used ≤ length s → more ≤ length (take (length s - used) (drop used s)) → used + more ≤ length s
-both_in s used more h k = omega (arith, simp (take_rest, length-drop) at k)
-
-pub length_rest : (s : List ℕ) (used : ℕ) {text : List ℕ} → used ≤ length s → text ≡ take (length s - used) (drop used s) → length text + used ≡ length s
-length_rest s used h e = rw e (simp (take_rest, length-drop) (omega arith))

@@ -1,5 +1,8 @@
 -- The promises of reading a sheet.
-use Rattle.std.proofs.Common.{◌≡◌, ℕ, ◌+◌, ◌-◌, ◌≤◌, Bool, true, false, cond, List, [], ◌∷◌, ◌++◌, length, take, drop, Some, None, Option, sym, refl, ap, ◌∙◌, subst, append_assoc, append-nil, arith, rules}
+use Rattle.std.proofs.Common.{Result, ◌≡◌, ℕ, ◌+◌, ◌-◌, ◌≤◌, Bool, true, false, cond, List, [], ◌∷◌, ◌++◌, length, take, drop, Some, None, Option, sym, refl, ap, ◌∙◌, subst, append_assoc, append-nil, arith, rules}
+use Rattle.sheet_faults.specs.declared.fault.SheetFault.{SheetFault}
+use Rattle.sheet_reader.specs.Readings.{told}
+use Rattle.sheet_reader.specs.declared.reading.Sheet.{Sheet}
 use Rattle.std.proofs.lemmas.Bool.{eq-eqb, ne_eqb}
 use Rattle.std.proofs.lemmas.Slice.Eq.{bytes_eq-Decides}
 use Rattle.std.proofs.lemmas.List.{drop-drop, drop-take, take-take}
@@ -19,7 +22,7 @@ use Rattle.sheet_reader.specs.Names.{named, text_of, row_named, name_of}
 use Rattle.sheet_reader.specs.Promises.{Accepted, WordsAt, Spelt, Names, Meanings, Promised}
 use Rattle.sheet_reader.specs.Rows.{made, top, meant}
 use Rattle.sheet_reader.specs.Sheets.{State, start, Reading, reading, lines, words, with_signal, with_named, with_watch, read_sheet}
-use Rattle.sheet_reader.specs.States.{NamedBelow, Sound}
+use Rattle.sheet_reader.specs.Sound.{NamedBelow, Sound}
 use Rattle.sheet_reader.specs.declared.reading.Name.{Name}
 use Rattle.sheet_reader.proofs.Accepted.{accepted_from, from_accepted}
 use Rattle.sheet_reader.proofs.Examples.{worked}
@@ -29,7 +32,7 @@ use Rattle.sheet_reader.proofs.Lines.{from_makes}
 use Rattle.sheet_reader.proofs.Meant.{formula_meant, signal_meant}
 use Rattle.sheet_reader.proofs.Ordered.{all_fit, top_above}
 use Rattle.sheet_reader.proofs.Questions.{ok_same}
-use Rattle.sheet_reader.proofs.Sound.{sound_start, sound_makes}
+use Rattle.sheet_reader.proofs.Sounds.{sound_start, sound_makes}
 use Rattle.sheet_reader.proofs.Wrong.{wrong_word}
 
 -- lines after lines
@@ -237,3 +240,6 @@ promised s = record {
   wrong_word = wrong_word s;
   examples = worked;
 }
+
+pub promised_of : (s : List ℕ) (answer : Result Sheet SheetFault) → told answer ≡ read_sheet s → Promised s (told answer)
+promised_of s answer e = subst (Promised s) (sym e) (promised s)

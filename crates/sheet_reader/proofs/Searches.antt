@@ -1,36 +1,36 @@
--- A search among the first `len` names of a table, from the first on.
-use Rattle.std.proofs.Common.{◌≡◌, ℕ, ◌+◌, ◌<◌, ◌≤◌, true, false, List, [], ◌∷◌, length, get_or, take, drop, Some, None, ap, ◌∙◌, arith}
+-- A search among names is the first name that passes its test.
+use Rattle.std.proofs.Common.{◌≡◌, ℕ, Bool, true, false, cond, List, [], ◌∷◌, Some, None, Option, Bor, refl, ap, ◌∙◌, ◌==◌}
+use Rattle.std.specs.List.{find}
+use Rattle.std.specs.Option.{option_map, option_copied}
 use Rattle.std.specs.Str.{bytes_eq}
-use Rattle.std.proofs.lemmas.Bool.{eq-eqb, ne_eqb}
-use Rattle.std.proofs.lemmas.List.{drop_more, drop_all, length-take-le, get_or-take}
 use Rattle.sheet_reader.specs.Names.{text_of, row_named, name_of}
 use Rattle.sheet_reader.specs.declared.reading.Name.{Name}
 
--- name i of those that are left
-at_name : (table : List Name) (len i : ℕ) → len ≤ length table → (d : Name) → i < len → drop i (take len table) ≡ get_or table i d ∷ drop (i + 1) (take len table)
-at_name table len i few d h =
-    let l = length-take-le len table few in
-    rw (← get_or-take len table i d h) (drop_more (take len table) i d (omega arith))
+find_name : (names : List Name) (r : ℕ) → find (λ n. n.row == r) names ≡ name_of names r
+find_name [] r = refl
+find_name (n ∷ ns) r = ap (cond (n.row == r) (Some n)) (find_name ns r)
 
-all_passed : (table : List Name) (len i : ℕ) → len ≤ length table → len ≤ i → drop i (take len table) ≡ []
-all_passed table len i few h = drop_all i (take len table) (rw (length-take-le len table few) h)
+map_cond : (b : Bool) (n : Name) (o : Option Name) → option_map (λ n. n.row) (cond b (Some n) o) ≡ cond b (Some n.row) (option_map (λ n. n.row) o)
+map_cond true n o = refl
+map_cond false n o = refl
 
-module _ (sheet : List ℕ) (table : List Name) (len : ℕ) (t : List ℕ) (i : ℕ) (few : len ≤ length table) where
-  pub hit : (d : Name) → i < len → bytes_eq (text_of sheet (get_or table i d)) t ≡ true → row_named sheet (drop i (take len table)) t ≡ Some (get_or table i d).row
-  hit d h e = ap (λ l. row_named sheet l t) (at_name table len i few d h) ∙ rw e
+find_row : (sheet : List ℕ) (names : List Name) (t : List ℕ) → option_map (λ n. n.row) (find (λ n. bytes_eq (text_of sheet n) t) names) ≡ row_named sheet names t
+find_row sheet [] t = refl
+find_row sheet (n ∷ ns) t =
+    let b = bytes_eq (text_of sheet n) t in
+    map_cond b n (find (λ n. bytes_eq (text_of sheet n) t) ns) ∙ ap (cond b (Some n.row)) (find_row sheet ns t)
 
-  pub miss : (d : Name) → i < len → bytes_eq (text_of sheet (get_or table i d)) t ≡ false → row_named sheet (drop i (take len table)) t ≡ row_named sheet (drop (i + 1) (take len table)) t
-  miss d h e = ap (λ l. row_named sheet l t) (at_name table len i few d h) ∙ rw e
+-- what is found is a reference to a name
+copied : (o : Option (Bor Name)) → option_copied o ≡ option_map (λ n. n.now) o
+copied None = refl
+copied (Some n) = refl
 
-  pub none_left : len ≤ i → row_named sheet (drop i (take len table)) t ≡ None
-  none_left h = ap (λ l. row_named sheet l t) (all_passed table len i few h)
+row_at : (o : Option (Bor Name)) → option_map (λ n. n.now.row) o ≡ option_map (λ n. n.row) (option_map (λ n. n.now) o)
+row_at None = refl
+row_at (Some n) = refl
 
-module _ (table : List Name) (len row i : ℕ) (few : len ≤ length table) where
-  pub row_hit : (d : Name) → i < len → (get_or table i d).row ≡ row → name_of (drop i (take len table)) row ≡ Some (get_or table i d)
-  row_hit d h e = ap (λ l. name_of l row) (at_name table len i few d h) ∙ rw (eq-eqb (get_or table i d).row row e)
+pub name_found : (names : List Name) (r : ℕ) (o : Option (Bor Name)) → option_map (λ n. n.now) o ≡ find (λ n. n.row == r) names → option_copied o ≡ name_of names r
+name_found names r o e = copied o ∙ e ∙ find_name names r
 
-  pub row_miss : (d : Name) → i < len → ((get_or table i d).row ≡ row → ⊥) → name_of (drop i (take len table)) row ≡ name_of (drop (i + 1) (take len table)) row
-  row_miss d h e = ap (λ l. name_of l row) (at_name table len i few d h) ∙ rw (ne_eqb (get_or table i d).row row e)
-
-  pub row_none : len ≤ i → name_of (drop i (take len table)) row ≡ None
-  row_none h = ap (λ l. name_of l row) (all_passed table len i few h)
+pub row_found : (sheet : List ℕ) (names : List Name) (t : List ℕ) (o : Option (Bor Name)) → option_map (λ n. n.now) o ≡ find (λ n. bytes_eq (text_of sheet n) t) names → option_map (λ n. n.now.row) o ≡ row_named sheet names t
+row_found sheet names t o e = row_at o ∙ ap (option_map (λ n. n.row)) e ∙ find_row sheet names t

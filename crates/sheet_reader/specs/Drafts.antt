@@ -1,7 +1,9 @@
 -- What the prefix reader keeps, and what it makes of the words of a formula.
 use Rattle.std.specs.Prelude.{◌≡◌, ℕ, suc, ◌+◌, ◌<◌, List, [], ◌∷◌, ◌++◌, take, Some, Ok}
 use Rattle.ltl.specs.declared.row.Row.{Row}
-use Rattle.sheet.specs.Parts.{Part, parts}
+use Rattle.sheet.specs.Cuts.{parts_left}
+use Rattle.sheet.specs.Parts.{Part}
+use Rattle.sheet.specs.declared.words.Parts.{Parts}
 use Rattle.sheet_reader.specs.Grammar.{Written, Symbol, spelt, wrong, bare}
 use Rattle.sheet_reader.specs.Names.{row_named}
 use Rattle.sheet_reader.specs.Rows.{size, top, made}
@@ -12,7 +14,7 @@ use Rattle.sheet_reader.specs.declared.reading.Name.{Name}
 
 -- the rows that a draft keeps
 abbrev pub kept : Draft → List Row
-kept d = take d.count d.rows
+kept d = d.rows.items
 
 -- rows from row n on agree with others as far as they are kept
 abbrev pub Agree : ℕ → List Row → List Row → Type 0
@@ -25,9 +27,9 @@ Agree n (r ∷ rs) (x ∷ xs) = (n < 64 → r ≡ x) × Agree (n + 1) rs xs
 abbrev pub Known : List ℕ → List Name → ℕ → Type 0
 Known sheet names n = (t : List ℕ) (r : ℕ) → row_named sheet names t ≡ Some r → r < n
 
--- the words of a part of a line, as a formula reads them
-abbrev pub line : List ℕ → List Name → ℕ → List ℕ → List (Symbol × ℕ)
-line sheet names p s = symbols_of sheet names (parts 32 p s)
+-- the words that are left, as a formula reads them
+abbrev pub line : List ℕ → List Name → Parts 32 → List (Symbol × ℕ)
+line sheet names words = symbols_of sheet names (parts_left words)
 
 -- the formula t is added to n rows of which k are kept: then there are n', of which k' are kept
 pub record Added (n : ℕ) (k : List Row) (n' : ℕ) (k' : List Row) (row : ℕ) (t : Written) : Type 0 where

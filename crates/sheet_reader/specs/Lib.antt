@@ -5,6 +5,7 @@ pub mod Sheets
 pub mod Laws
 pub mod Lines
 pub mod Drafts
+pub mod Sound
 pub mod States
 pub mod Readings
 pub mod Labels

@@ -1,13 +1,13 @@
 -- Declared names, and the row that a word names.
 use Rattle.std.specs.Prelude.{ℕ, cond, List, [], ◌∷◌, length, take, drop, Some, None, Option, ◌==◌}
 use Rattle.std.specs.Str.{bytes_eq}
+use Rattle.arrayvec.specs.ArrayVec.{ArrayVec}
 use Rattle.sheet.specs.Parts.{Part}
 use Rattle.sheet_reader.specs.declared.reading.Name.{Name}
-use Rattle.sheet_reader.specs.declared.reading.Names.{Names}
 
 -- the names of a table, in the order of their lines
-abbrev pub names_in : Names → List Name
-names_in x = take x.len x.table
+abbrev pub names_in : ArrayVec Name → List Name
+names_in x = x.items
 
 -- a word as the name of a row
 abbrev pub named : Part → ℕ → Name

@@ -1,17 +1,23 @@
 //! What reading a sheet makes: rows, names, and at last a formula with its names.
-ghost use Rattle.std.specs.Prelude.{◌≡◌, ◌≤◌, length};
+ghost use Rattle.std.specs.Prelude.{◌≡◌, ◌≤◌, length, min};
+ghost use Rattle.sheet.specs.Cuts.{end_of};
+ghost use Rattle.sheet_reader.specs.Sound.{Sound, sound_prop};
 
+use arrayvec::ArrayVec;
 use ltl::formula::Formula;
 use ltl::row::Row;
+use sheet::words::Words;
 
 pub mod labels;
 mod prefix;
+mod rows;
 mod search;
+pub mod signals;
 
 pub use prefix::read;
 
 /// A declared name: its place and its bytes' number in the sheet, and the row that it names.
-#[derive(Clone, Copy)]
+#[derive(Clone, Copy, Default)]
 struct Name {
     at: usize,
     len: usize,
@@ -19,21 +25,22 @@ struct Name {
 }
 
 /// The declared names, at most one for each of 64 rows, in the order of their lines.
+type Names = ArrayVec<Name, 64>;
+
+/// Names in the sheet that declares them.
 #[derive(Clone, Copy)]
-struct Names {
-    table: [Name; 64],
-    len: usize,
-    ghost sized: { length table ≡ 64 },
-    ghost few: { len ≤ 64 },
+struct Declared<'a> {
+    sheet: &'a [u8],
+    names: &'a Names,
 }
 
 /// Rows in the making: the first 64 of `count`. Rows past these are counted and not kept, since
 /// whether a line's rows are too many is asked only after its grammar.
-#[derive(Clone, Copy)]
+#[derive(Drop)]
 struct Draft {
-    rows: [Row; 64],
+    rows: ArrayVec<Row, 64>,
     count: usize,
-    ghost sized: { length rows ≡ 64 },
+    ghost kept: { length rows.items ≡ min count 64 },
 }
 
 /// A sheet as read so far: its rows, names and signals, and the watch row once its line is read.
@@ -43,6 +50,17 @@ struct Plan {
     names: Names,
     width: u8,
     watch: Option<usize>,
+    ghost counted: { draft.count ≤ 64 },
+    ghost sound: { Sound (record { rows = draft.rows.items; names = names.items; width = width; watch = watch }) } by { sound_prop _ },
+}
+
+/// A line behind its keyword: the sheet, the words that are left, and the keyword's place.
+#[derive(Clone, Copy)]
+struct Line<'a> {
+    sheet: &'a [u8],
+    words: Words<'a>,
+    first: usize,
+    ghost short: { end_of words ≤ 4096 },
 }
 
 /// A sheet that was read: its formula, and the names of its rows.

@@ -1,44 +1,24 @@
 //! What a sheet that was read tells besides its formula: the labels of its rows, and its signals by name.
 ghost use Rattle.std.specs.Prelude.{◌≡◌, ◌<◌, ◌≤◌, IfSome};
 ghost use Rattle.sheet_reader.specs.Labels.{shown, label_text, told_label, label_of};
-ghost use Rattle.sheet_reader.specs.Names.{names_in, name_of};
 ghost use Rattle.sheet_reader.specs.Readings.{reading_of};
 ghost use Rattle.sheet_reader.specs.Signals.{signal_named};
 
-use super::search::row_named;
-use super::{Label, Name, Names, Sheet};
+use super::{Declared, Label, Name, Sheet};
 use ltl::row::Row;
 use sheet_faults::fault::NoSuchRow;
-
-/// The first declared name of a row.
-fn name_of(names: &Names, row: usize) -> Option<Name>
-    ensures { result ≡ name_of (names_in names.now) row }
-{
-    for i in 0..names.len {
-        let name = names.table[i];
-        if name.row == row {
-            return Some(name);
-        }
-    }
-    None
-}
 
 /// A name as a label, where the sheet is long enough to have it.
 fn label_text<'a>(name: Option<Name>, sheet: &'a [u8], spare: &'a [u8]) -> Label<'a>
     ensures { shown result ≡ label_text name sheet.now spare.now }
 {
-    if let Some(name) = name {
-        let at = name.at;
-        let len = name.len;
-        if at <= sheet.len() && len <= sheet.len() - at {
-            let end = at + len;
-            return Label::Sheet {
-                text: &sheet[at..end],
-                at,
-            };
-        }
+    let Some(name) = name else {
+        return Label::Spare { text: spare };
+    };
+    match sheet.get(name.at..).and_then(|rest| rest.get(..name.len)) {
+        Some(text) => Label::Sheet { text, at: name.at },
+        None => Label::Spare { text: spare },
     }
-    Label::Spare { text: spare }
 }
 
 impl Sheet {
@@ -55,7 +35,11 @@ impl Sheet {
         if row >= self.formula.row_count() {
             return Err(NoSuchRow);
         }
-        Ok(label_text(name_of(&self.names, row), sheet, spare))
+        let names = Declared {
+            sheet,
+            names: &self.names,
+        };
+        Ok(label_text(names.name_of(row), sheet, spare))
     }
 
     /// The signal that a word names, if it names one, by the sheet that was read.
@@ -64,8 +48,11 @@ impl Sheet {
         ensures below { IfSome result (λ k. k < (reading_of self.now).table.width) }
         ensures few { (reading_of self.now).table.width ≤ 32 }
     {
-        let row = row_named(sheet, &self.names, word)?;
-        match self.formula.row(row) {
+        let names = Declared {
+            sheet,
+            names: &self.names,
+        };
+        match self.formula.row(names.row_named(word)?) {
             Some(Row::Signal(k)) => Some(k),
             _ => None,
         }

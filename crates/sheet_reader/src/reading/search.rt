@@ -1,42 +1,45 @@
 //! The row of a name, and the name of a row.
-ghost use Rattle.std.specs.Prelude.{◌≡◌, ◌<◌, Some, None, MatchOption, slice_index_or};
-ghost use Rattle.sheet_reader.specs.Names.{names_in, text_of, row_named};
+ghost use Rattle.std.specs.Prelude.{◌≡◌, Some, None, MatchResult};
+ghost use Rattle.sheet_reader.specs.Names.{names_in, text_of, row_named, name_of};
 
-use super::{Name, Names};
-use sheet::text::same;
+use super::{Declared, Name};
+use sheet::words::Word;
+use sheet_faults::fault::WordFault;
 
-/// The bytes of a name, as far as the sheet has them.
-fn text_of<'a>(sheet: &'a [u8], name: Name) -> &'a [u8]
-    ensures { result.now ≡ text_of sheet.now name }
-{
-    let at = name.at;
-    let len = name.len;
-    if at >= sheet.len() {
-        return &sheet[0..0];
+impl Name {
+    /// Its bytes, as far as the sheet has them.
+    fn text_in<'a>(&self, sheet: &'a [u8]) -> &'a [u8]
+        ensures { result.now ≡ text_of sheet.now self.now }
+    {
+        let rest = &sheet[self.at.min(sheet.len())..];
+        &rest[..self.len.min(rest.len())]
     }
-    let rest = &sheet[at..];
-    if len >= rest.len() {
-        return rest;
-    }
-    &rest[0..len]
 }
 
-/// The number of the first declared name with these bytes.
-fn first_named(sheet: &[u8], names: &Names, text: &[u8]) -> Option<usize>
-    ensures { MatchOption result (row_named sheet.now (names_in names.now) text.now ≡ None) (λ i. (i < names.now.len) × ((d : Name) → row_named sheet.now (names_in names.now) text.now ≡ Some (slice_index_or names.now.table i d).row)) }
-{
-    for i in 0..names.len {
-        if same(text_of(sheet, names.table[i]), text) {
-            return Some(i);
-        }
+impl<'a> Declared<'a> {
+    /// The row of the first name with these bytes.
+    pub(super) fn row_named(&self, text: &[u8]) -> Option<usize>
+        ensures { result ≡ row_named self.now.sheet.now (names_in self.now.names.now) text.now }
+    {
+        let sheet = self.sheet;
+        self.names
+            .iter()
+            .find(|name| name.text_in(sheet) == text)
+            .map(|name| name.row)
     }
-    None
-}
 
-/// The row of the first declared name with these bytes.
-pub(super) fn row_named(sheet: &[u8], names: &Names, text: &[u8]) -> Option<usize>
-    ensures { result ≡ row_named sheet.now (names_in names.now) text.now }
-{
-    let i = first_named(sheet, names, text)?;
-    Some(names.table[i].row)
+    /// The same where a word has to be such a name.
+    pub(super) fn row_of(&self, word: Word) -> Result<usize, WordFault>
+        ensures { MatchResult result (λ row. row_named self.now.sheet.now (names_in self.now.names.now) word.entry.text.now ≡ Some row) (λ f. (row_named self.now.sheet.now (names_in self.now.names.now) word.entry.text.now ≡ None) × (f ≡ WordFault.Unknown word.entry.at)) }
+    {
+        self.row_named(word.text)
+            .ok_or(WordFault::Unknown { at: word.at })
+    }
+
+    /// The first name of a row.
+    pub(super) fn name_of(&self, row: usize) -> Option<Name>
+        ensures { result ≡ name_of (names_in self.now.names.now) row }
+    {
+        self.names.iter().find(|name| name.row == row).copied()
+    }
 }

@@ -1,21 +1,20 @@
 //! The line reader: signal, name and watch lines, and the sheet that they make.
-ghost use Rattle.std.specs.Prelude.{◌≡◌, ◌+◌, ◌<◌, ◌≤◌, [], ◌∷◌, ◌++◌, length, drop, Ok, Err, MatchResult, OnOk};
-ghost use Rattle.sheet.specs.Parts.{parts, part};
+ghost use Rattle.std.specs.Prelude.{◌≡◌, ◌≤◌, length, Ok, Err, MatchResult};
+ghost use Rattle.sheet.specs.Cuts.{part_of, parts_left, end_of};
 ghost use Rattle.sheet.specs.Tokens.{token_of};
 ghost use Rattle.sheet.specs.declared.token.Keyword.TheVariants as key;
-ghost use Rattle.sheet_reader.specs.Names.{names_in};
-ghost use Rattle.sheet_reader.specs.Sheets.{start, ask_keyword, name_fault, unless, ask_name, ask_operator, by_keyword, by_words, by_lines, finished, allowed, foreign_byte, read_sheet};
-ghost use Rattle.sheet_reader.specs.States.{state_of, told_plan, Ready};
+ghost use Rattle.sheet_reader.specs.Names.{names_in, named};
+ghost use Rattle.sheet_reader.specs.Sheets.{start, lines, ask_keyword, name_fault, unless, ask_name, ask_operator, by_keyword, by_words, by_lines, finished, allowed, foreign_byte, read_sheet};
+ghost use Rattle.sheet_reader.specs.States.{state_of, told_plan};
 ghost use Rattle.sheet_reader.specs.Promises.{Promised};
 ghost use Rattle.sheet_reader.specs.Readings.{told};
 
-use super::super::search::row_named;
-use super::super::{Draft, Name, Names, Plan, Sheet};
-use super::{nothing_more, push, wanted_word, whole_formula, word_at};
+use super::super::{Declared, Draft, Line, Name, Names, Plan, Sheet};
+use super::{nothing_more, wanted_word};
 use ltl::formula::Formula;
 use ltl::row::Row;
-use sheet::token::{Keyword, Token, classify, is_reserved};
-use sheet::words::{Next, Word, next_word};
+use sheet::token::{Keyword, Token, is_reserved};
+use sheet::words::{Lines, Word, Words};
 use sheet_faults::fault::{FormulaFault, NameFault, SheetFault};
 
 /// The most bytes of a sheet.
@@ -29,259 +28,255 @@ const ROWS: usize = 64;
 /// The most bytes of a name.
 const NAME: usize = 16;
 
-/// Adds a declared name.
-fn declare(names: &mut Names, name: Name)
-    requires { names.old.len < 64 }
-    ensures { names_in names.new ≡ names_in names.old ++ name ∷ [] }
-{
-    let n = names.len;
-    names.table[n] = name;
-    names.len = n + 1;
-}
-
 /// Question 3: the keyword that a line begins with, after no watch line.
 fn line_keyword(word: Word, watch: Option<usize>) -> Result<Keyword, SheetFault>
     ensures { result ≡ ask_keyword watch word.entry.at (token_of word.entry.text.now word.entry.at) }
 {
     let at = word.at;
-    match classify(word) {
-        Token::Keyword(keyword) => match watch {
-            None => Ok(keyword),
-            Some(_) => Err(SheetFault::AfterWatch { at }),
-        },
-        Token::Operator(_) => Err(SheetFault::NoKeyword { at }),
-        Token::Name { text: _, at: _ } => Err(SheetFault::NoKeyword { at }),
+    match (Token::from(word), watch) {
+        (Token::Keyword(keyword), None) => Ok(keyword),
+        (Token::Keyword(_), Some(_)) => Err(SheetFault::AfterWatch { at }),
+        _ => Err(SheetFault::NoKeyword { at }),
     }
-}
-
-/// Question 4 of a second word: whether it may become a name.
-fn fresh(sheet: &[u8], names: &Names, word: Word) -> Result<(), NameFault>
-    ensures { result ≡ unless (name_fault sheet.now (names_in names.now) (part word.entry.text.now word.entry.at)) }
-{
-    let at = word.at;
-    if is_reserved(word.text) {
-        return Err(NameFault::Reserved { at });
-    }
-    if row_named(sheet, names, word.text).is_some() {
-        return Err(NameFault::Taken { at });
-    }
-    if word.text.len() > NAME {
-        return Err(NameFault::TooLong { at });
-    }
-    Ok(())
-}
-
-/// Question 4: the new name that `rest`, which begins at `base` in the sheet, begins with.
-fn new_name<'a>(
-    sheet: &[u8],
-    names: &Names,
-    rest: &'a [u8],
-    base: usize,
-) -> Result<Next<'a>, NameFault>
-    requires { base + length rest.now ≤ 4096 }
-    ensures { MatchResult result (λ n. (n.used ≤ length rest.now) × (ask_name sheet.now (names_in names.now) (parts 32 base rest.now) (base + length rest.now) ≡ Ok (part n.word.text.now n.word.at, parts 32 (base + n.used) (drop n.used rest.now)))) (λ f. ask_name sheet.now (names_in names.now) (parts 32 base rest.now) (base + length rest.now) ≡ Err f) }
-{
-    let Some(next) = word_at(rest, base) else {
-        return Err(NameFault::Missing {
-            at: base + rest.len(),
-        });
-    };
-    fresh(sheet, names, next.word)?;
-    Ok(next)
-}
-
-/// A signal line: `rest` follows the keyword and begins at `base`; the line's first word is at `first`.
-fn signal_line(
-    plan: &mut Plan,
-    sheet: &[u8],
-    rest: &[u8],
-    base: usize,
-    first: usize,
-) -> Result<(), SheetFault>
-    requires ready { Ready plan.old }
-    requires places { base + length rest.now ≤ 4096 }
-    ensures told { told_plan result plan.new ≡ by_keyword sheet.now (state_of plan.old) first key.Signal (parts 32 base rest.now) (base + length rest.now) }
-    ensures counted { OnOk result (plan.new.draft.count ≤ 64) }
-{
-    let name = new_name(sheet, &plan.names, rest, base)?;
-    let used = name.used;
-    nothing_more(&rest[used..], base + used)?;
-    if plan.width >= SIGNALS || plan.draft.count >= ROWS {
-        return Err(SheetFault::TooMany { at: first });
-    }
-    let row = plan.draft.count;
-    push(&mut plan.draft, Row::Signal(plan.width));
-    let at = name.word.at;
-    let len = name.word.text.len();
-    declare(&mut plan.names, Name { at, len, row });
-    plan.width += 1;
-    Ok(())
 }
 
 /// Question 5 on a name line: whether a formula begins with an operator.
-fn operator_first(s: &[u8], base: usize) -> Result<(), FormulaFault>
-    requires { base + length s.now ≤ 4096 }
-    ensures { result ≡ ask_operator (parts 32 base s.now) (base + length s.now) }
+fn operator_first(mut words: Words) -> Result<(), FormulaFault>
+    ensures { result ≡ ask_operator (parts_left words.entry) (end_of words.entry) }
 {
-    let next = wanted_word(s, base)?;
-    let at = next.word.at;
-    match classify(next.word) {
+    let word = wanted_word(&mut words)?;
+    match Token::from(word) {
         Token::Operator(_) => Ok(()),
-        Token::Keyword(_) => Err(FormulaFault::NoOperator { at }),
-        Token::Name { text: _, at: _ } => Err(FormulaFault::NoOperator { at }),
+        _ => Err(FormulaFault::NoOperator { at: word.at }),
     }
 }
 
-/// A name line: `rest` follows the keyword and begins at `base`; the line's first word is at `first`.
-fn name_line(
-    plan: &mut Plan,
-    sheet: &[u8],
-    rest: &[u8],
-    base: usize,
-    first: usize,
-) -> Result<(), SheetFault>
-    requires ready { Ready plan.old }
-    requires places { base + length rest.now ≤ 4096 }
-    ensures told { told_plan result plan.new ≡ by_keyword sheet.now (state_of plan.old) first key.Name (parts 32 base rest.now) (base + length rest.now) }
-    ensures counted { OnOk result (plan.new.draft.count ≤ 64) }
-{
-    let name = new_name(sheet, &plan.names, rest, base)?;
-    let used = name.used;
-    let formula = &rest[used..];
-    operator_first(formula, base + used)?;
-    let row = whole_formula(sheet, &plan.names, formula, base + used, &mut plan.draft)?;
-    if plan.draft.count > ROWS {
-        return Err(SheetFault::TooMany { at: first });
+impl Name {
+    /// A word as the name of a row.
+    fn new(word: Word, row: usize) -> Name
+        ensures { result ≡ named (part_of word.entry) row }
+    {
+        Name {
+            at: word.at,
+            len: word.text.len(),
+            row,
+        }
     }
-    let at = name.word.at;
-    let len = name.word.text.len();
-    declare(&mut plan.names, Name { at, len, row });
-    Ok(())
 }
 
-/// The watch line: `rest` follows the keyword and begins at `base`; the line's first word is at `first`.
-fn watch_line(
-    plan: &mut Plan,
-    sheet: &[u8],
-    rest: &[u8],
-    base: usize,
-    first: usize,
-) -> Result<(), SheetFault>
-    requires ready { Ready plan.old }
-    requires places { base + length rest.now ≤ 4096 }
-    ensures told { told_plan result plan.new ≡ by_keyword sheet.now (state_of plan.old) first key.Watch (parts 32 base rest.now) (base + length rest.now) }
-    ensures counted { OnOk result (plan.new.draft.count ≤ 64) }
-{
-    let row = whole_formula(sheet, &plan.names, rest, base, &mut plan.draft)?;
-    if plan.draft.count > ROWS {
-        return Err(SheetFault::TooMany { at: first });
+impl<'a> Declared<'a> {
+    /// Question 4 of a second word: whether it may become a name.
+    fn fresh(&self, word: Word) -> Result<(), NameFault>
+        ensures { result ≡ unless (name_fault self.now.sheet.now (names_in self.now.names.now) (part_of word.entry)) }
+    {
+        let at = word.at;
+        if is_reserved(word.text) {
+            return Err(NameFault::Reserved { at });
+        }
+        if self.row_named(word.text).is_some() {
+            return Err(NameFault::Taken { at });
+        }
+        if word.text.len() > NAME {
+            return Err(NameFault::TooLong { at });
+        }
+        Ok(())
     }
-    plan.watch = Some(row);
-    Ok(())
+
+    /// Question 4: the new name that the words begin with.
+    fn new_name<'b>(&self, words: &mut Words<'b>) -> Result<Word<'b>, NameFault>
+        ensures name { MatchResult result (λ w. ask_name self.now.sheet.now (names_in self.now.names.now) (parts_left words.old) (end_of words.old) ≡ Ok (part_of w, parts_left words.new)) (λ f. ask_name self.now.sheet.now (names_in self.now.names.now) (parts_left words.old) (end_of words.old) ≡ Err f) }
+        ensures end { end_of words.new ≡ end_of words.old }
+    {
+        let word = words.next_part();
+        let word = word.ok_or(NameFault::Missing { at: words.end() })?;
+        self.fresh(word)?;
+        Ok(word)
+    }
 }
 
-/// Reads one line, which stands at its place in the sheet.
-fn read_line(plan: &mut Plan, sheet: &[u8], line: Word) -> Result<(), SheetFault>
-    requires ready { Ready plan.old }
-    requires places { line.at + length line.text.now ≤ 4096 }
-    ensures told { told_plan result plan.new ≡ by_words sheet.now (state_of plan.old) (parts 32 line.entry.at line.entry.text.now) (line.entry.at + length line.entry.text.now) }
-    ensures counted { OnOk result (plan.new.draft.count ≤ 64) }
-{
-    let Some(next) = word_at(line.text, line.at) else {
-        return Ok(());
-    };
-    let keyword = line_keyword(next.word, plan.watch)?;
-    let first = next.word.at;
-    let used = next.used;
-    let rest = &line.text[used..];
-    let base = line.at + used;
-    match keyword {
-        Keyword::Signal => signal_line(plan, sheet, rest, base, first),
-        Keyword::Name => name_line(plan, sheet, rest, base, first),
-        Keyword::Watch => watch_line(plan, sheet, rest, base, first),
+impl Plan {
+    /// A plan that has read nothing.
+    fn new() -> Plan
+        ensures { state_of result ≡ start }
+    {
+        Plan {
+            draft: Draft::new(),
+            names: Names::new(),
+            width: 0,
+            watch: None,
+        }
+    }
+
+    /// The plan with a signal line.
+    fn with_signal(self, line: Line) -> Result<Plan, SheetFault>
+        ensures { told_plan result ≡ by_keyword line.entry.sheet.now (state_of self) line.entry.first key.Signal (parts_left line.entry.words) (end_of line.entry.words) }
+    {
+        let Line {
+            sheet,
+            mut words,
+            first,
+        } = line;
+        let Plan {
+            mut draft,
+            mut names,
+            width,
+            watch,
+        } = self;
+        let declared = Declared {
+            sheet,
+            names: &names,
+        };
+        let name = declared.new_name(&mut words)?;
+        nothing_more(words)?;
+        if width >= SIGNALS || draft.count >= ROWS {
+            return Err(SheetFault::TooMany { at: first });
+        }
+        names.push(Name::new(name, draft.count));
+        draft.push(Row::Signal(width));
+        Ok(Plan {
+            draft,
+            names,
+            width: width + 1,
+            watch,
+        })
+    }
+
+    /// The plan with a name line.
+    fn with_name(self, line: Line) -> Result<Plan, SheetFault>
+        ensures { told_plan result ≡ by_keyword line.entry.sheet.now (state_of self) line.entry.first key.Name (parts_left line.entry.words) (end_of line.entry.words) }
+    {
+        let Line {
+            sheet,
+            mut words,
+            first,
+        } = line;
+        let Plan {
+            mut draft,
+            mut names,
+            width,
+            watch,
+        } = self;
+        let declared = Declared {
+            sheet,
+            names: &names,
+        };
+        let name = declared.new_name(&mut words)?;
+        operator_first(words)?;
+        let row = declared.whole_formula(words, &mut draft)?;
+        if draft.count > ROWS {
+            return Err(SheetFault::TooMany { at: first });
+        }
+        names.push(Name::new(name, row));
+        Ok(Plan {
+            draft,
+            names,
+            width,
+            watch,
+        })
+    }
+
+    /// The plan with the watch line.
+    fn with_watch(self, line: Line) -> Result<Plan, SheetFault>
+        ensures { told_plan result ≡ by_keyword line.entry.sheet.now (state_of self) line.entry.first key.Watch (parts_left line.entry.words) (end_of line.entry.words) }
+    {
+        let Line {
+            sheet,
+            words,
+            first,
+        } = line;
+        let Plan {
+            mut draft,
+            names,
+            width,
+            watch: _,
+        } = self;
+        let declared = Declared {
+            sheet,
+            names: &names,
+        };
+        let row = declared.whole_formula(words, &mut draft)?;
+        if draft.count > ROWS {
+            return Err(SheetFault::TooMany { at: first });
+        }
+        Ok(Plan {
+            draft,
+            names,
+            width,
+            watch: Some(row),
+        })
+    }
+
+    /// The plan with one line more, which stands at its place in the sheet.
+    fn with_line(self, sheet: &[u8], mut words: Words) -> Result<Plan, SheetFault>
+        requires { end_of words ≤ 4096 }
+        ensures { told_plan result ≡ by_words sheet.now (state_of self) (parts_left words.entry) (end_of words.entry) }
+    {
+        let Some(word) = words.next_part() else {
+            return Ok(self);
+        };
+        let keyword = line_keyword(word, self.watch)?;
+        let line = Line {
+            sheet,
+            words,
+            first: word.at,
+        };
+        match keyword {
+            Keyword::Signal => self.with_signal(line),
+            Keyword::Name => self.with_name(line),
+            Keyword::Watch => self.with_watch(line),
+        }
+    }
+
+    /// Question 7: the formula of the lines and its names.
+    fn finish(self, sheet: &[u8]) -> Result<Sheet, SheetFault>
+        ensures { told result ≡ finished (length sheet.now) (state_of self) self.watch }
+    {
+        let Plan {
+            draft,
+            names,
+            width,
+            watch,
+        } = self;
+        let watch = watch.ok_or(SheetFault::NoWatch { at: sheet.len() })?;
+        match Formula::new(width, &draft.rows, watch) {
+            Some(formula) => Ok(Sheet { formula, names }),
+            None => unreachable(),
+        }
     }
 }
 
 /// Reads the lines of a sheet.
-fn read_lines(plan: &mut Plan, sheet: &[u8]) -> Result<(), SheetFault>
-    requires ready { Ready plan.old }
-    requires few { length sheet.now ≤ 4096 }
-    ensures told { told_plan result plan.new ≡ by_lines sheet.now (state_of plan.old) (parts 10 0 sheet.now) }
-    ensures ready { OnOk result (Ready plan.new) }
+fn read_lines(sheet: &[u8]) -> Result<Plan, SheetFault>
+    requires { length sheet.now ≤ 4096 }
+    ensures { told_plan result ≡ by_lines sheet.now start (lines sheet.now) }
 {
-    let mut from = 0;
-    while let Some(next) = next_word(&sheet[from..], b'\n') {
-        let at = from + next.word.at;
-        let text = next.word.text;
-        read_line(plan, sheet, Word { text, at })?;
-        from += next.used;
+    let mut plan = Plan::new();
+    let mut lines = Lines::new(sheet);
+    while let Some(words) = lines.next_words() {
+        plan = plan.with_line(sheet, words)?;
     }
-    Ok(())
-}
-
-/// A plan that has read nothing.
-fn new_plan() -> Plan
-    ensures state { state_of result ≡ start }
-    ensures counted { result.draft.count ≤ 64 }
-{
-    let name = Name {
-        at: 0,
-        len: 0,
-        row: 0,
-    };
-    Plan {
-        draft: Draft {
-            rows: [Row::Signal(0); 64],
-            count: 0,
-        },
-        names: Names {
-            table: [name; 64],
-            len: 0,
-        },
-        width: 0,
-        watch: None,
-    }
-}
-
-/// Question 7: the formula of the lines and its names.
-fn finish(plan: Plan, sheet: &[u8]) -> Result<Sheet, SheetFault>
-    requires { Ready plan }
-    ensures { told result ≡ finished (length sheet.now) (state_of plan) plan.watch }
-{
-    let Some(watch) = plan.watch else {
-        return Err(SheetFault::NoWatch { at: sheet.len() });
-    };
-    let rows = plan.draft.rows;
-    let count = plan.draft.count;
-    match Formula::new(plan.width, &rows[0..count], watch) {
-        Some(formula) => Ok(Sheet {
-            formula,
-            names: plan.names,
-        }),
-        None => unreachable(),
-    }
+    Ok(plan)
 }
 
 /// Whether a sheet may hold a byte.
 fn allowed(b: u8) -> bool
     ensures { result ≡ allowed b }
 {
-    b == b'\n' || (b >= 32 && b <= 126)
+    matches!(b, b'\n' | 32..=126)
 }
 
 /// Question 2: whether every byte is 10 or from 32 to 126.
 fn check_bytes(sheet: &[u8]) -> Result<(), SheetFault>
     ensures { result ≡ unless (foreign_byte 0 sheet.now) }
 {
-    for at in 0..sheet.len() {
-        if !allowed(sheet[at]) {
-            return Err(SheetFault::ForeignByte { at });
-        }
+    match sheet.iter().position(|b| !allowed(*b)) {
+        Some(at) => Err(SheetFault::ForeignByte { at }),
+        None => Ok(()),
     }
-    Ok(())
 }
 
 /// Asks the questions in their order.
+// A function of its own, so that what is promised is shown once, and not at each of these returns.
 fn asked(sheet: &[u8]) -> Result<Sheet, SheetFault>
     ensures { told result ≡ read_sheet sheet.now }
 {
@@ -289,17 +284,7 @@ fn asked(sheet: &[u8]) -> Result<Sheet, SheetFault>
         return Err(SheetFault::TooLong);
     }
     check_bytes(sheet)?;
-    let mut plan = new_plan();
-    read_lines(&mut plan, sheet)?;
-    finish(plan, sheet)
-}
-
-/// The same, with what is promised of it.
-fn lawful(sheet: &[u8]) -> Result<Sheet, SheetFault>
-    ensures answer { told result ≡ read_sheet sheet.now }
-    ensures promised { Promised sheet.now (told result) }
-{
-    asked(sheet)
+    read_lines(sheet)?.finish(sheet)
 }
 
 /// Reads a sheet: its formula with the names of its rows, or the first question answered no.
@@ -309,9 +294,10 @@ fn lawful(sheet: &[u8]) -> Result<Sheet, SheetFault>
 /// signal g
 /// watch always implies r eventually g
 /// ```
+#[tactic(auto, using(crate::proofs::Promises::promised_of))]
 pub fn read(sheet: &[u8]) -> Result<Sheet, SheetFault>
     ensures answer { told result ≡ read_sheet sheet.now }
     ensures promised { Promised sheet.now (told result) }
 {
-    lawful(sheet)
+    asked(sheet)
 }

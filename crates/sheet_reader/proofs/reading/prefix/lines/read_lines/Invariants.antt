@@ -1,11 +1,11 @@
-use Rattle.std.proofs.Common.{◌≡◌, ◌-◌, ◌≤◌, length, drop}
-use Rattle.sheet.specs.Parts.{parts}
-use Rattle.sheet_reader.specs.Sheets.{by_lines}
-use Rattle.sheet_reader.specs.States.{state_of, Ready}
+use Rattle.std.proofs.Common.{◌≡◌, length}
+use Rattle.sheet.specs.Cuts.{parts_left, end_of}
+use Rattle.sheet_reader.specs.Sheets.{start, lines, by_lines}
+use Rattle.sheet_reader.specs.States.{state_of}
 use Rattle.sheet_reader.proofs.reading.prefix.lines.read_lines.Given as goal
 
-abbrev pub invariant-loop-next : goal.invariant-loop-next
-invariant-loop-next l = (l.from ≤ length l.sheet) × Ready l.plan × (by_lines l.sheet (state_of l.plan) (parts 10 l.from (drop l.from l.sheet)) ≡ by_lines l.sheet (state_of l.initial.plan) (parts 10 0 l.sheet))
+abbrev pub invariant-loop-words : goal.invariant-loop-words
+invariant-loop-words l = (end_of l.lines ≡ length l.sheet) × (by_lines l.sheet (state_of l.plan) (parts_left l.lines) ≡ by_lines l.sheet start (lines l.sheet))
 
-abbrev pub decreases-loop-next : goal.decreases-loop-next
-decreases-loop-next l = length l.sheet - l.from
+abbrev pub decreases-loop-words : goal.decreases-loop-words
+decreases-loop-words l = length (parts_left l.lines)
