@@ -1,12 +1,9 @@
 #!/usr/bin/env python3
-"""Lists candidates for the places of docs/DESIGN-PASS.md that a search by grep cannot find.
+"""Lists candidates for the places that docs/DESIGN-PASS.md counts, point by point.
 
     tools/places.py [FOLDER]     the folder of a checkout, by default this one
 
-twins      functions whose bodies are the same but for names, types and constants (five tokens or more)
-pass-on    functions whose body is one call of a function of the crate with the parameters in their order
-facts      facts that stand in the clauses of three or more functions, with the parameters' names left out
-together   groups of two or more parameters that three or more functions take
+A candidate is a place to read; whether it counts is said on the page.
 """
 import collections
 import glob
@@ -45,7 +42,8 @@ def parameters(head):
 
 
 def shape(body):
-    tokens = re.findall(r"b?\"[^\"]*\"|b'.'|[A-Za-z_]\w*|\d+|::|[^\s\w]", re.sub(r"//.*", "", body))
+    tokens = re.findall(r"b?\"[^\"]*\"|b'.'|[A-Za-z_]\w*|\d+|::|[=!<>]=|[^\s\w]", re.sub(r"//.*", "", body))
+    tokens = ["<" if t in ("==", "!=", "<=", ">=", ">") else t for t in tokens]
     return tuple(t if t in KEEP or not re.match(r"[\w\"b]", t) else "_" for t in tokens)
 
 
@@ -55,7 +53,39 @@ def show(title, groups):
         print(f"  {name}: {', '.join(places)}")
 
 
+def lines_with(title, pattern, skip=r"$^"):
+    found = []
+    for path in sorted(glob.glob(f"{ROOT}/crates/*/src/**/*.rt", recursive=True)):
+        for number, line in enumerate(open(path, encoding="utf-8"), 1):
+            if re.search(pattern, line) and not re.search(skip, line):
+                found.append((f"{os.path.relpath(path, ROOT).replace('crates/', '').replace('/src', '')}:{number}", [line.strip()]))
+    show(title, found)
+
+
+def counted_buffers():
+    found = []
+    for path in sorted(glob.glob(f"{ROOT}/crates/*/src/**/*.rt", recursive=True)):
+        for struct in re.findall(r"struct (\w+)[^{;]*\{(.*?)\n\}", open(path, encoding="utf-8").read(), re.S):
+            fields = dict(re.findall(r"^ +(?:pub )?(\w+): (.*),$", struct[1], re.M))
+            buffers = [f for f, kind in fields.items() if "[" in kind or "Vec<" in kind]
+            counts = [f for f, kind in fields.items() if kind == "usize"]
+            if buffers and counts:
+                found.append((os.path.relpath(path, ROOT).replace("crates/", "").replace("/src", ""), [f"{struct[0]}: {', '.join(buffers + counts)}"]))
+    show("6 buffers with a number beside", found)
+
+
 every = list(functions())
+lines_with("1 enums", r"^ *(pub(\([a-z]+\))? )?enum ")
+lines_with("1 numbers for kinds or refusals", r"\b(question|kind|code|tag): (u8|usize)\b|question: [0-9]|of_\w+\([0-9]|Fault::\w+ => [0-9]")
+lines_with("1 flags", r"^ +(pub )?\w+: bool,")
+lines_with("3 while and loop", r"^\s*(while|loop) ")
+lines_with("3 for over numbers", r"for \w+ in [^{&]*\.\.")
+lines_with("3 counters and recursion over a number", r"\b(\w+) = \1\.saturating_add\(1\);|\b[a-z] \+ 1, \w+\)$|^\s+\w+ \+= 1;")
+lines_with("4 comparison and conversion by hand", r"fn (same|equal|smaller|larger|operand|compare)\b|\) as u8|a as u8|impl .*(PartialEq|PartialOrd|Ord|Clone|Copy|Debug) for")
+lines_with("4 casts with as", r" as (u8|u16|u32|u64|usize|char)\b")
+lines_with("4 Display and From by hand", r"^impl(<.*>)? (fmt::Display|From<.*>|TryFrom<.*>) for")
+lines_with("7 function pointers, dyn, closures kept", r"\bfn\(|\bdyn |Box<")
+counted_buffers()
 by_shape = collections.defaultdict(list)
 passing = []
 facts = collections.defaultdict(set)
@@ -82,7 +112,18 @@ for path, name, head, body in every:
     typed = [re.sub(r"&'?\w* ?|\bmut ", "", p.replace(": ", ":")) for p in parameters(head)]
     for pair in itertools.combinations(typed, 2):
         groups[pair].add(place)
-show("twins", [(f"{len(p)} of one shape", p) for p in by_shape.values() if len(p) > 1])
-show("pass-on", passing)
-show("facts", [(f, sorted(p)) for f, p in sorted(facts.items()) if len(p) > 2])
-show("together", [(" ".join(g), sorted(p)) for g, p in sorted(groups.items()) if len(p) > 2])
+show("2 twins", [(f"{len(p)} of one shape", p) for p in by_shape.values() if len(p) > 1])
+show("2 pass-on", passing)
+show("5 facts", [(f, sorted(p)) for f, p in sorted(facts.items()) if len(p) > 2])
+show("5 together", [(" ".join(g), sorted(p)) for g, p in sorted(groups.items()) if len(p) > 2])
+switches = []
+for path, name, head, body in every:
+    calls = re.findall(r"=> (?:self\.)?([a-z_]+)\(([^()]*)\),", body)
+    if len({c[0] for c in calls}) > 1 and len({c[1] for c in calls}) == 1 and len(calls) > 1:
+        switches.append((f"{path}:{name}", [f"{c[0]}({c[1]})" for c in calls]))
+show("7 switches on which step to run", switches)
+for kind in ("Answers", "Invariants", "Proof"):
+    files = glob.glob(f"{ROOT}/crates/*/proofs/**/{kind}.antt", recursive=True)
+    print(f"8 {kind}: {len(files)} files, {sum(len(open(f, encoding='utf-8').readlines()) for f in files)} lines")
+files = [f for f in glob.glob(f"{ROOT}/crates/*/proofs/**/*.antt", recursive=True)]
+print(f"8 all of proofs: {len(files)} files, {sum(len(open(f, encoding='utf-8').readlines()) for f in files)} lines")

@@ -16,7 +16,7 @@ mod tests {
     use scales::truth::Truth;
     use std::test::Fail;
     use values::grid::Grid;
-    use values::grid::columns::{pairs, truths};
+    use values::grid::columns::evaluate;
 
     const A: Row = Row::Signal(0);
 
@@ -41,7 +41,7 @@ mod tests {
             recorder.record(Step::from_bits(*bits))?;
         }
         let mut cells = [NONE; 64];
-        pairs(&formula, &recorder, &mut cells)?;
+        evaluate(&formula, &recorder, &mut cells)?;
         let positions = recorder.len().saturating_add(1);
         Ok(
             Grid::new(&mut cells, rows.len(), positions)
@@ -116,21 +116,26 @@ mod tests {
         );
     }
 
+    // A refusal's number, part and place.
+    fn told(refusal: Refusal) -> (u8, Part, usize) {
+        (
+            refusal.question.number(),
+            refusal.question.part(),
+            refusal.place,
+        )
+    }
+
     // How opening over so many words is refused, if it is.
-    fn opening(width: u8, words: &mut [u32]) -> Option<Refusal> {
+    fn opening(width: u8, words: &mut [u32]) -> Option<(u8, Part, usize)> {
         match PlainRecorder::open(width, words) {
             Ok(_) => None,
-            Err(refused) => Some(refused.fault.refusal()),
+            Err(refused) => Some(told(refused.fault.refusal())),
         }
     }
 
     #[test]
     fn openings(rt: HostRuntime) {
-        let ten = Refusal {
-            question: 10,
-            part: Part::Recording,
-            place: 0,
-        };
+        let ten = (10, Part::Recording, 0);
         assert_eq!(rt; opening(0, &mut [0; 1]), Some(ten));
         assert_eq!(rt; opening(33, &mut [0; 1]), Some(ten));
         assert_eq!(rt; opening(1, &mut []), Some(ten));
@@ -139,10 +144,10 @@ mod tests {
     }
 
     // How recording is refused, if it is.
-    fn refused<R: Recorder>(recorder: &mut R, bits: u64) -> Option<Refusal> {
+    fn refused<R: Recorder>(recorder: &mut R, bits: u64) -> Option<(u8, Part, usize)> {
         match recorder.record(Step::from_bits(bits)) {
             Ok(_) => None,
-            Err(fault) => Some(fault.refusal()),
+            Err(fault) => Some(told(fault.refusal())),
         }
     }
 
@@ -154,20 +159,12 @@ mod tests {
                 return Err(Fail::new("not opened"));
             };
             assert_eq!(rt; recorder.len(), 0);
-            let eight = Refusal {
-                question: 8,
-                part: Part::Recording,
-                place: 0,
-            };
+            let eight = (8, Part::Recording, 0);
             assert_eq!(rt; refused(&mut recorder, 4), Some(eight));
             assert!(rt; !recorder.room(Step::from_bits(4)));
             assert_eq!(rt; refused(&mut recorder, 1), None);
             assert_eq!(rt; refused(&mut recorder, 2), None);
-            let nine = Refusal {
-                question: 9,
-                part: Part::Recording,
-                place: 0,
-            };
+            let nine = (9, Part::Recording, 0);
             assert_eq!(rt; refused(&mut recorder, 0), Some(nine));
             assert_eq!(rt;
                 refused(&mut recorder, 4),
@@ -197,17 +194,13 @@ mod tests {
         };
         recorder.record(Step::empty())?;
         let mut cells = [Truth::True; 5];
-        let seventeen = Refusal {
-            question: 17,
-            part: Part::Watch,
-            place: 0,
-        };
-        match truths(&formula, &recorder, &mut cells[0..3]) {
+        let seventeen = (17, Part::Watch, 0);
+        match evaluate(&formula, &recorder, &mut cells[0..3]) {
             Ok(()) => return Err(Fail::new("three cells for two rows and two positions")),
-            Err(fault) => assert_eq!(rt; fault.refusal(), seventeen),
+            Err(fault) => assert_eq!(rt; told(fault.refusal()), seventeen),
         }
         assert!(rt; cells[2] == Truth::True, "a refused grid is unchanged");
-        truths(&formula, &recorder, &mut cells)?;
+        evaluate(&formula, &recorder, &mut cells)?;
         assert!(rt; cells[0] == Truth::False);
         assert!(rt; cells[1] == Truth::Undecided);
         assert!(rt; cells[2] == Truth::Undecided);

@@ -1,11 +1,12 @@
 //! Labels, signals by name and step lines of sheets, as tests over the public calls.
-use input::lines::{Line, split_input, step_line};
+use input::lines::{split_input, step_line};
 use input::places::line_around;
 use input::steps::{StepFault, record_lines};
-use ltl::refusal::{Part, Refusal};
+use ltl::refusal::Part;
 use recorder::plain::PlainRecorder;
 use recorder::recording::Recording;
-use sheet_reader::reading::{Label, read};
+use sheet_reader::reading::signals::SheetSignals;
+use sheet_reader::reading::{Label, Sheet, read};
 use std::test::Fail;
 
 const TEXT: &[u8] = b"signal r\nsignal go\nname both and r go\nwatch both";
@@ -34,15 +35,16 @@ fn labels(rt: HostRuntime) -> Result<(), Fail> {
         (None, 5),
         "one byte too short"
     );
-    let fifteen = Refusal {
-        question: 15,
-        part: Part::Watch,
-        place: 0,
-    };
+    let fifteen = (15, Part::Watch, 0);
     match read(TEXT)?.label(TEXT, b"spare", 6) {
         Ok(_) => Err(Fail::new("the formula has six rows")),
         Err(fault) => {
-            assert_eq!(rt; fault.refusal(), fifteen);
+            let refusal = fault.refusal();
+            let question = refusal.question;
+            assert_eq!(rt;
+                (question.number(), question.part(), refusal.place),
+                fifteen
+            );
             Ok(())
         },
     }
@@ -61,12 +63,16 @@ fn signals(rt: HostRuntime) -> Result<(), Fail> {
     Ok(())
 }
 
+// The names of a sheet that was read from TEXT.
+fn signals_of(sheet: &Sheet) -> SheetSignals<'_> {
+    SheetSignals { sheet, text: TEXT }
+}
+
 // The signals of a step line as bits, or nothing where it is blank or strange.
 fn bits(line: &[u8]) -> Result<Option<u64>, Fail> {
-    match step_line(&read(TEXT)?, TEXT, line) {
-        Line::Signals(step) => Ok(Some(step.bits())),
-        Line::Blank => Ok(None),
-        Line::Strange(_) => Ok(None),
+    match step_line(&signals_of(&read(TEXT)?), line) {
+        Ok(step) => Ok(step.map(|step| step.bits())),
+        Err(_) => Ok(None),
     }
 }
 
@@ -77,12 +83,12 @@ fn step_lines(rt: HostRuntime) -> Result<(), Fail> {
     assert_eq!(rt; bits(b"   ")?, None);
     assert_eq!(rt; bits(b"- r")?, None);
     assert_eq!(rt; bits(b"r both")?, None);
-    match step_line(&read(TEXT)?, TEXT, b"r both x") {
-        Line::Strange(at) => {
-            assert_eq!(rt; at, 2);
+    match step_line(&signals_of(&read(TEXT)?), b"r both x") {
+        Err(strange) => {
+            assert_eq!(rt; strange.at, 2);
             Ok(())
         },
-        _ => Err(Fail::new("both is no signal")),
+        Ok(_) => Err(Fail::new("both is no signal")),
     }
 }
 
@@ -95,11 +101,11 @@ fn inputs(rt: HostRuntime) {
     assert_eq!(rt; split.sheet, 8);
     assert_eq!(rt; split.steps, 8);
     let line = line_around(b"ab\ncde\nf", 4);
-    assert_eq!(rt; line.from, 3);
-    assert_eq!(rt; line.to, 6);
+    assert_eq!(rt; line.start, 3);
+    assert_eq!(rt; line.end, 6);
     let line = line_around(b"ab\n", 9);
-    assert_eq!(rt; line.from, 3);
-    assert_eq!(rt; line.to, 3);
+    assert_eq!(rt; line.start, 3);
+    assert_eq!(rt; line.end, 3);
 }
 
 #[test]
@@ -109,7 +115,7 @@ fn recorded_lines(rt: HostRuntime) -> Result<(), Fail> {
     let Ok(mut recorder) = PlainRecorder::open(2, &mut words) else {
         return Err(Fail::new("not opened"));
     };
-    match record_lines(&mut recorder, &sheet, TEXT, b"r\n\n go x\nr") {
+    match record_lines(&mut recorder, &signals_of(&sheet), b"r\n\n go x\nr") {
         Err(StepFault::Strange { line, word }) => {
             assert_eq!(rt; line, 3);
             assert_eq!(rt; word, 4);
@@ -117,10 +123,10 @@ fn recorded_lines(rt: HostRuntime) -> Result<(), Fail> {
         _ => return Err(Fail::new("x is no signal")),
     }
     assert_eq!(rt; recorder.len(), 1, "the lines before it are recorded");
-    match record_lines(&mut recorder, &sheet, TEXT, b"go r\n-") {
+    match record_lines(&mut recorder, &signals_of(&sheet), b"go r\n-") {
         Err(StepFault::Refused { line, fault }) => {
             assert_eq!(rt; line, 5);
-            assert_eq!(rt; fault.refusal().question, 9);
+            assert_eq!(rt; fault.refusal().question.number(), 9);
         }
         _ => return Err(Fail::new("there are two words")),
     }

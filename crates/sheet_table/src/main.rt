@@ -4,33 +4,28 @@
 use anyhow::anyhow;
 use sheet_faults::fault::SheetFault;
 use sheet_reader::reading::{Label, Sheet, read};
-use std::alloc::Global;
+use std::alloc::{AllocError, Global};
 use std::fmt::Write;
 use std::io::{BufRead, BufReader};
 
 /// The bytes of a sheet from a line of the table.
-fn unfolded(heap: Global, line: &[u8]) -> anyhow::Result<Vec<u8>> {
-    let mut sheet = Vec::new(heap);
-    for b in line {
-        sheet.push(if *b == b'|' { b'\n' } else { *b })?;
-    }
-    Ok(sheet)
+fn unfolded(heap: Global, line: &[u8]) -> Result<Vec<u8>, AllocError> {
+    line.iter()
+        .map(|b| if *b == b'|' { b'\n' } else { *b })
+        .collect(heap)
 }
 
 /// Writes the label of a row: its name and the name's place, or the spare text.
-fn write_label(text: &mut String, label: Label) -> anyhow::Result<()> {
-    match label {
-        Label::Sheet { text: name, at } => {
-            for b in name {
-                text.push(*b as char)?;
-            }
-            write!(text, "@{at}")?;
-        }
-        Label::Spare { text: spare } => {
-            for b in spare {
-                text.push(*b as char)?;
-            }
-        }
+fn write_label(out: &mut String, label: Label) -> anyhow::Result<()> {
+    let (text, place) = match label {
+        Label::Sheet { text, at } => (text, Some(at)),
+        Label::Spare { text } => (text, None),
+    };
+    for b in text {
+        out.push(char::from(*b))?;
+    }
+    if let Some(at) = place {
+        write!(out, "@{at}")?;
     }
     Ok(())
 }
@@ -45,8 +40,8 @@ fn write_sheet(text: &mut String, sheet: &Sheet, bytes: &[u8]) -> anyhow::Result
         text,
         "accepted: {width} signals, {rows} rows, watch {watch}:"
     )?;
-    for r in 0..rows {
-        let (Some(row), Ok(label)) = (formula.row(r), sheet.label(bytes, b".", r)) else {
+    for (r, row) in formula.rows().iter().enumerate() {
+        let Ok(label) = sheet.label(bytes, b".", r) else {
             return Err(anyhow!("a row has no label"));
         };
         text.push(' ')?;
@@ -59,7 +54,7 @@ fn write_sheet(text: &mut String, sheet: &Sheet, bytes: &[u8]) -> anyhow::Result
 /// Writes a refusal by its number and place, with what is wrong.
 fn write_refusal(text: &mut String, fault: SheetFault) -> anyhow::Result<()> {
     let refusal = fault.refusal();
-    let number = refusal.question;
+    let number = refusal.question.number();
     let place = refusal.place;
     write!(text, "refused {number} {place}")?;
     Ok(())
