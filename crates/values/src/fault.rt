@@ -2,7 +2,7 @@
 ghost use Rattle.std.specs.Prelude.{◌≡◌, Some};
 ghost use Rattle.values.specs.Faults.{grid_refusal, shown_grid_fault};
 
-use ltl::refusal::{Part, Refusal};
+use ltl::refusal::{Question, Refusal};
 use std::error::Error;
 use std::fmt;
 
@@ -11,13 +11,12 @@ use std::fmt;
 pub struct GridTooSmall;
 
 impl GridTooSmall {
-    /// The question answered no, its part and its place.
+    /// The question answered no, and its place.
     pub fn refusal(self) -> Refusal
         ensures { result ≡ grid_refusal }
     {
         Refusal {
-            question: 17,
-            part: Part::Watch,
+            question: Question::GridCells,
             place: 0,
         }
     }

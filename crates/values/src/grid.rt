@@ -1,6 +1,7 @@
 //! A grid: rows and positions of values of one scale, in memory that is handed in.
-ghost use Rattle.std.specs.Prelude.{◌≡◌, ◌*◌, ◌<◌, length, MatchBool, MatchOption, slice_index_or, slice_set};
-ghost use Rattle.values.specs.Grids.{place, Inside};
+ghost use Rattle.std.specs.Prelude.{◌≡◌, ◌<◌, length, MatchBool, MatchOption};
+ghost use Rattle.values.specs.Grids.{place};
+ghost use Rattle.values.specs.Tables.{HasCell, cell_of, Stored};
 
 pub mod columns;
 
@@ -11,15 +12,6 @@ pub struct Grid<'a, T> {
     cells: &'a mut [T],
     rows: usize,
     positions: usize,
-}
-
-/// What stands at a place, of a slice that is taken for writing and left as it is.
-fn read<T: Copy>(cells: &mut [T], k: usize) -> T
-    requires { k < length cells.old }
-    ensures value { result ≡ slice_index_or cells.old k result }
-    ensures kept { cells.new ≡ cells.old }
-{
-    cells[k]
 }
 
 impl<'a, T: Copy> Grid<'a, T> {
@@ -38,28 +30,30 @@ impl<'a, T: Copy> Grid<'a, T> {
 
     /// Whether row r at position i has a cell.
     pub fn has(&self, r: usize, i: usize) -> bool
-        ensures { MatchBool result (Inside (length self.now.cells.now) self.now.rows self.now.positions r i) (¬ Inside (length self.now.cells.now) self.now.rows self.now.positions r i) }
+        ensures { MatchBool result (HasCell self.now r i) (¬ HasCell self.now r i) }
     {
         match self.rows.checked_mul(self.positions) {
-            Some(all) => all <= self.cells.len() && r < self.rows && 1 <= i && i <= self.positions,
+            Some(all) => all <= self.cells.len()
+                && r < self.rows
+                && (1..=self.positions).contains(&i),
             None => false,
         }
     }
 
     /// The value of row r at position i, if it has a cell.
-    pub fn get(&mut self, r: usize, i: usize) -> Option<T>
-        ensures value { MatchOption result (¬ Inside (length self.old.cells.now) self.old.rows self.old.positions r i) (λ x. Inside (length self.old.cells.now) self.old.rows self.old.positions r i × (x ≡ slice_index_or self.old.cells.now (place self.old.positions r i) x)) }
-        ensures kept { self.new ≡ self.old }
+    pub fn get(&self, r: usize, i: usize) -> Option<T>
+        ensures { MatchOption result (¬ HasCell self.now r i) (λ x. HasCell self.now r i × (x ≡ cell_of self.now r i x)) }
     {
-        if !self.has(r, i) {
-            return None;
+        if self.has(r, i) {
+            Some(self.at(r, i))
+        } else {
+            None
         }
-        Some(self.at(r, i))
     }
 
     /// Where the cell of row r at position i stands.
     fn spot(&self, r: usize, i: usize) -> usize
-        requires { Inside (length self.now.cells.now) self.now.rows self.now.positions r i }
+        requires { HasCell self.now r i }
         ensures place { result ≡ place self.now.positions r i }
         ensures within { result < length self.now.cells.now }
     {
@@ -67,22 +61,17 @@ impl<'a, T: Copy> Grid<'a, T> {
     }
 
     /// The value of row r at position i.
-    fn at(&mut self, r: usize, i: usize) -> T
-        requires { Inside (length self.old.cells.now) self.old.rows self.old.positions r i }
-        ensures value { result ≡ slice_index_or self.old.cells.now (place self.old.positions r i) result }
-        ensures kept { self.new ≡ self.old }
+    fn at(&self, r: usize, i: usize) -> T
+        requires { HasCell self.now r i }
+        ensures { result ≡ cell_of self.now r i result }
     {
-        let k = self.spot(r, i);
-        read(self.cells, k)
+        self.cells[self.spot(r, i)]
     }
 
     /// Writes the value of row r at position i.
     fn put(&mut self, r: usize, i: usize, v: T)
-        requires { Inside (length self.old.cells.now) self.old.rows self.old.positions r i }
-        ensures cells { self.new.cells.now ≡ slice_set self.old.cells.now (place self.old.positions r i) v }
-        ensures rows { self.new.rows ≡ self.old.rows }
-        ensures positions { self.new.positions ≡ self.old.positions }
-        ensures same { self.new.cells.ghost_name ≡ self.old.cells.ghost_name }
+        requires { HasCell self.old r i }
+        ensures { Stored self.old self.new r i v }
     {
         let k = self.spot(r, i);
         self.cells[k] = v;

@@ -1,15 +1,11 @@
 //! The value of every row at every position: backward, column by column.
-ghost use Rattle.std.specs.Prelude.{◌≡◌, ◌+◌, ◌<◌, ◌≤◌, length, if◌then◌else◌, nat_le, slice_index_or};
-ghost use Rattle.ltl.specs.Formulas.{rows_of, row_count, width_of};
-ghost use Rattle.scales.specs.Pairs.{pair_ops, truer_pair};
-ghost use Rattle.ltl.specs.Rows.{Fits};
-ghost use Rattle.ltl.specs.declared.row.Row.TheVariants.{Signal};
+ghost use Rattle.std.specs.Prelude.{◌≡◌, ◌+◌, ◌≤◌, length, if◌then◌else◌, nat_le};
+ghost use Rattle.ltl.specs.Formulas.{row_count};
 ghost use Rattle.ltl.specs.Steps.{step_at, set_of};
-ghost use Rattle.scales.specs.Truths.{truth_ops, truer};
 ghost use Rattle.ltl.specs.Values.{signal_value};
 ghost use Rattle.values.specs.Answers.{evaluated, Filled, Left};
-ghost use Rattle.values.specs.Grids.{place, Inside, Ready};
-ghost use Rattle.values.specs.Tables.{meaning, Held, Frame};
+ghost use Rattle.values.specs.Grids.{Ready};
+ghost use Rattle.values.specs.Tables.{meaning, HasCell, cell_of, Stands, Frame};
 
 use super::Grid;
 use crate::fault::GridTooSmall;
@@ -17,114 +13,86 @@ use ltl::formula::Formula;
 use ltl::row::Row;
 use ltl::step::Step;
 use recorder::recording::Recording;
-use scales::pair::Pair;
 use scales::scale::Scale;
-use scales::truth::Truth;
 
-/// Row r of the formula.
-fn row_at(formula: &Formula, r: usize) -> Row
-    requires { r < row_count formula.now }
-    ensures value { result ≡ slice_index_or (rows_of formula.now) r (Signal 0) }
-    ensures within { r < length (rows_of formula.now) }
-    ensures fits { Fits (width_of formula.now) r result }
-{
-    match formula.row(r) {
-        Some(row) => row,
-        None => unreachable(),
-    }
+/// A formula, and the recording that it is evaluated over.
+#[derive(Drop)]
+struct Evaluation<'f, 'r, R> {
+    formula: &'f Formula,
+    recording: &'r R,
 }
 
-/// The value of signal k at position i, where the step is this one.
-fn signal<S: Scale, R: Recording>(recording: &R, step: Step, k: u8, i: usize) -> S
-    requires { set_of step ≡ step_at (R.steps recording.now) i }
-    ensures { result ≡ signal_value S.ops (R.steps recording.now) k i }
-{
-    if i > recording.len() {
-        return S::past();
+impl<'f, 'r, R: Recording> Evaluation<'f, 'r, R> {
+    /// The value of signal k at position i, where the step is this one.
+    fn signal<S: Scale>(&self, step: Step, k: u8, i: usize) -> S
+        requires { set_of step ≡ step_at (R.steps self.now.recording.now) i }
+        ensures { result ≡ signal_value S.ops (R.steps self.now.recording.now) k i }
+    {
+        if i > self.recording.len() {
+            return S::past();
+        }
+        if step.has(k) { S::yes() } else { S::no() }
     }
-    if step.has(k) { S::yes() } else { S::no() }
-}
 
-/// Later of row r at the next position, or the open value after the last step.
-fn ahead<S: Scale>(grid: &mut Grid<S>, n: usize, r: usize, i: usize) -> S
-    requires small { n ≤ 4096 }
-    requires inside { i ≤ n → Inside (length grid.old.cells.now) grid.old.rows grid.old.positions r (i + 1) }
-    ensures value { result ≡ (if nat_le i n then S.ops.later (slice_index_or grid.old.cells.now (place grid.old.positions r (i + 1)) S.ops.no) else S.ops.«open») }
-    ensures kept { grid.new ≡ grid.old }
-{
-    if i <= n {
-        grid.at(r, i + 1).later()
-    } else {
-        S::open()
-    }
-}
-
-/// The value of row r at position i, where the rows below it there, and all rows after there, stand in the grid.
-fn cell<S: Scale, R: Recording>(
-    formula: &Formula,
-    recording: &R,
-    step: Step,
-    grid: &mut Grid<S>,
-    r: usize,
-    i: usize,
-) -> S
-    requires ready { Ready (row_count formula.now) (length (R.steps recording.now)) (length grid.old.cells.now) grid.old.rows grid.old.positions }
-    requires inside { Inside (length grid.old.cells.now) grid.old.rows grid.old.positions r i }
-    requires known { Held S.ops (R.steps recording.now) formula.now grid.old i r }
-    requires step { set_of step ≡ step_at (R.steps recording.now) i }
-    ensures value { result ≡ meaning S.ops (R.steps recording.now) formula.now r i }
-    ensures kept { grid.new ≡ grid.old }
-{
-    let n = recording.len();
-    match row_at(formula, r) {
-        Row::Signal(k) => signal(recording, step, k, i),
-        Row::Not(a) => grid.at(a as usize, i).turn(),
-        Row::Or(a, b) => {
-            let x = grid.at(a as usize, i);
-            let y = grid.at(b as usize, i);
-            x.join(y)
-        }
-        Row::Next(a) => {
-            let j = if i <= n { i + 1 } else { i };
-            grid.at(a as usize, j).later()
-        }
-        Row::Until(a, b) => {
-            let x = grid.at(a as usize, i);
-            let y = grid.at(b as usize, i);
-            let z = ahead(grid, n, r, i);
-            y.join(x.meet(z))
-        }
-        Row::Eventually(a) => {
-            let x = grid.at(a as usize, i);
-            let z = ahead(grid, n, r, i);
-            x.join(z)
+    /// Later of row r at the next position, or the open value after the last step.
+    fn ahead<S: Scale>(&self, grid: &Grid<S>, r: usize, i: usize) -> S
+        requires { i ≤ length (R.steps self.now.recording.now) → HasCell grid.now r (i + 1) }
+        ensures { result ≡ (if nat_le i (length (R.steps self.now.recording.now)) then S.ops.later (cell_of grid.now r (i + 1) S.ops.no) else S.ops.«open») }
+    {
+        if i <= self.recording.len() {
+            grid.at(r, i + 1).later()
+        } else {
+            S::open()
         }
     }
-}
 
-/// Fills column i, where the columns after it stand.
-fn column<S: Scale, R: Recording>(formula: &Formula, recording: &R, grid: &mut Grid<S>, i: usize)
-    requires ready { Ready (row_count formula.now) (length (R.steps recording.now)) (length grid.old.cells.now) grid.old.rows grid.old.positions }
-    requires within { (1 ≤ i) × (i ≤ grid.old.positions) }
-    requires known { Held S.ops (R.steps recording.now) formula.now grid.old i 0 }
-    ensures known { Held S.ops (R.steps recording.now) formula.now grid.new i (row_count formula.now) }
-    ensures frame { Frame grid.old grid.new }
-{
-    let step = recording.step(i);
-    for r in 0..formula.row_count() {
-        let v = cell(formula, recording, step, grid, r, i);
-        grid.put(r, i, v);
+    /// The value of row r at position i, where the rows below it there, and all rows after there, stand in the grid.
+    fn cell<S: Scale>(&self, grid: &Grid<S>, step: Step, r: usize, i: usize) -> S
+        requires inside { HasCell grid.now r i }
+        requires stands { Stands S.ops (R.steps self.now.recording.now) self.now.formula.now grid.now i r }
+        requires step { set_of step ≡ step_at (R.steps self.now.recording.now) i }
+        ensures { result ≡ meaning S.ops (R.steps self.now.recording.now) self.now.formula.now r i }
+    {
+        match self.formula.rows()[r] {
+            Row::Signal(k) => self.signal(step, k, i),
+            Row::Not(a) => grid.at(a as usize, i).turn(),
+            Row::Or(a, b) => grid.at(a as usize, i).join(grid.at(b as usize, i)),
+            Row::Next(a) => {
+                let j = if i <= self.recording.len() { i + 1 } else { i };
+                grid.at(a as usize, j).later()
+            }
+            Row::Until(a, b) => {
+                let x = grid.at(a as usize, i);
+                let y = grid.at(b as usize, i);
+                y.join(x.meet(self.ahead(grid, r, i)))
+            }
+            Row::Eventually(a) => grid.at(a as usize, i).join(self.ahead(grid, r, i)),
+        }
     }
-}
 
-/// Fills the grid: every cell of a row and a position holds the row's value there.
-fn fill<S: Scale, R: Recording>(formula: &Formula, recording: &R, grid: &mut Grid<S>)
-    requires { Ready (row_count formula.now) (length (R.steps recording.now)) (length grid.old.cells.now) grid.old.rows grid.old.positions }
-    ensures cells { Filled S.ops S.atleast (R.width recording.now) (R.steps recording.now) formula.now grid.old.cells.now grid.new.cells.now }
-    ensures memory { grid.new.cells.ghost_name ≡ grid.old.cells.ghost_name }
-{
-    for i in (1..recording.len() + 2).rev() {
-        column(formula, recording, grid, i);
+    /// Fills column i, where the columns after it stand.
+    fn column<S: Scale>(&self, grid: &mut Grid<S>, i: usize)
+        requires within { (1 ≤ i) × (i ≤ grid.old.positions) }
+        requires stands { Stands S.ops (R.steps self.now.recording.now) self.now.formula.now grid.old i 0 }
+        ensures stands { Stands S.ops (R.steps self.now.recording.now) self.now.formula.now grid.new i (row_count self.now.formula.now) }
+        ensures frame { Frame grid.old grid.new }
+    {
+        let step = self.recording.step(i);
+        for r in 0..self.formula.row_count() {
+            let v = self.cell(grid, step, r, i);
+            grid.put(r, i, v);
+        }
+    }
+
+    /// Fills the grid: every cell of a row and a position holds the row's value there.
+    fn fill<S: Scale>(&self, grid: &mut Grid<S>)
+        requires { Ready (row_count self.now.formula.now) (length (R.steps self.now.recording.now)) (length grid.old.cells.now) grid.old.rows grid.old.positions }
+        ensures cells { Filled S.ops S.atleast (R.width self.now.recording.now) (R.steps self.now.recording.now) self.now.formula.now grid.old.cells.now grid.new.cells.now }
+        ensures memory { grid.new.cells.ghost_name ≡ grid.old.cells.ghost_name }
+    {
+        for i in (1..=grid.positions).rev() {
+            self.column(grid, i);
+        }
     }
 }
 
@@ -148,30 +116,6 @@ pub fn evaluate<S: Scale, R: Recording>(
         rows,
         positions,
     };
-    fill(formula, recording, &mut grid);
+    Evaluation { formula, recording }.fill(&mut grid);
     Ok(())
-}
-
-/// The same at three-valued values.
-pub fn truths<R: Recording>(
-    formula: &Formula,
-    recording: &R,
-    cells: &mut [Truth],
-) -> Result<(), GridTooSmall>
-    ensures answer { result ≡ evaluated (row_count formula.now) (length (R.steps recording.now)) (length cells.old) }
-    ensures cells { Left truth_ops truer (R.width recording.now) (R.steps recording.now) formula.now cells.old cells.new result }
-{
-    evaluate::<Truth, R>(formula, recording, cells)
-}
-
-/// The same at pairs of witness counts.
-pub fn pairs<R: Recording>(
-    formula: &Formula,
-    recording: &R,
-    cells: &mut [Pair],
-) -> Result<(), GridTooSmall>
-    ensures answer { result ≡ evaluated (row_count formula.now) (length (R.steps recording.now)) (length cells.old) }
-    ensures cells { Left pair_ops truer_pair (R.width recording.now) (R.steps recording.now) formula.now cells.old cells.new result }
-{
-    evaluate::<Pair, R>(formula, recording, cells)
 }
