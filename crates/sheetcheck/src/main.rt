@@ -147,15 +147,14 @@ fn judged<R: Recording>(
 }
 
 /// Judges a sheet over the steps that the lines tell.
-fn judge_steps(
-    rt: &HostRuntime,
-    signals: SheetSignals,
-    lines: &[u8],
-) -> anyhow::Result<ExitCode> {
+fn judge_steps(rt: &HostRuntime, signals: SheetSignals, lines: &[u8]) -> anyhow::Result<ExitCode> {
     let formula = &signals.sheet.formula;
     let mut words = vec![in rt.alloc(); 0u32; STEPS]?;
-    let mut recorder = PlainRecorder::open(formula.width(), words.as_mut_slice())
-        .map_err(|refused| refused.fault)?;
+    // Not `map_err(..)?`: the error holds the words that were handed in, and no proof is made of a closure over it.
+    let mut recorder = match PlainRecorder::open(formula.width(), words.as_mut_slice()) {
+        Ok(recorder) => recorder,
+        Err(refused) => return Err(refused.fault.into()),
+    };
     match record_lines(&mut recorder, &signals, lines) {
         Ok(()) => judged(rt, formula, &recorder),
         Err(fault) => refused_steps(rt, lines, fault),

@@ -114,8 +114,11 @@ fn run(rt: &HostRuntime) -> anyhow::Result<()> {
     let heap = rt.alloc();
     let formula = bench();
     let mut words = vec![in heap; 0u32; STEPS]?;
-    let mut recorder = PlainRecorder::open(formula.width(), words.as_mut_slice())
-        .map_err(|refused| refused.fault)?;
+    // Not `map_err(..)?`: the error holds the words that were handed in, and no proof is made of a closure over it.
+    let mut recorder = match PlainRecorder::open(formula.width(), words.as_mut_slice()) {
+        Ok(recorder) => recorder,
+        Err(refused) => return Err(refused.fault.into()),
+    };
     record_lines(rt, &mut recorder)?;
     let text = judged(heap, &formula, &recorder)?;
     rt.print(text.as_str())?;
