@@ -8,7 +8,6 @@ pub mod Trees
 pub mod Truer
 pub mod Unfold
 pub mod Sets
-pub mod Rows
 pub mod Signals
 pub mod Narrow
 pub mod Formulas

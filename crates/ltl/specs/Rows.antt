@@ -1,5 +1,5 @@
 -- When a row may stand in a formula: its operands are earlier rows, its signal lies below the width.
-use Rattle.std.specs.Prelude.{ℕ, ◌<◌, Bool, ◌&&◌, nat_lt}
+use Rattle.std.specs.Prelude.{ℕ, ◌<◌}
 use Rattle.std.proofs.Props.{props}
 use Rattle.ltl.specs.declared.row.Row.{Row}
 use Rattle.ltl.specs.declared.row.Row.TheVariants.{Signal, Not, Or, Next, Until, Eventually}
@@ -12,15 +12,6 @@ Fits width r (Or a b) = (a < r) × (b < r)
 Fits width r (Next a) = a < r
 Fits width r (Until a b) = (a < r) × (b < r)
 Fits width r (Eventually a) = a < r
-
--- the same as a test
-abbrev pub fits : ℕ → ℕ → Row → Bool
-fits width r (Signal k) = nat_lt k width
-fits width r (Not a) = nat_lt a r
-fits width r (Or a b) = nat_lt a r && nat_lt b r
-fits width r (Next a) = nat_lt a r
-fits width r (Until a b) = nat_lt a r && nat_lt b r
-fits width r (Eventually a) = nat_lt a r
 
 -- at most one proof says so
 pub fits_prop : (width r : ℕ) (x : Row) → IsProp (Fits width r x)

@@ -1,7 +1,7 @@
 //! The rows of a formula.
-ghost use Rattle.std.specs.Prelude.{◌≡◌, Some};
+ghost use Rattle.std.specs.Prelude.{◌≡◌, Some, MatchBool};
 ghost use Rattle.ltl.specs.declared.row.Row.TheVariants.{Signal};
-ghost use Rattle.ltl.specs.Rows.{fits};
+ghost use Rattle.ltl.specs.Rows.{Fits};
 ghost use Rattle.ltl.specs.Shown.{shown_row};
 
 use std::fmt;
@@ -21,12 +21,12 @@ pub enum Row {
 impl Row {
     /// Whether row r may be this one, in a formula with so many signals.
     pub(crate) fn fits(self, width: u8, r: usize) -> bool
-        ensures { result ≡ fits width r self }
+        ensures { MatchBool result (Fits width r self) (¬ Fits width r self) }
     {
         match self {
             Row::Signal(k) => k < width,
-            Row::Not(a) | Row::Next(a) | Row::Eventually(a) => (a as usize) < r,
-            Row::Or(a, b) | Row::Until(a, b) => (a as usize) < r && (b as usize) < r,
+            Row::Not(a) | Row::Next(a) | Row::Eventually(a) => usize::from(a) < r,
+            Row::Or(a, b) | Row::Until(a, b) => usize::from(a) < r && usize::from(b) < r,
         }
     }
 }

@@ -49,6 +49,7 @@ impl OpenFault {
     }
 }
 
+// By hand: what `thiserror` derives has no contract on the text.
 impl fmt::Display for RecordFault {
     ghost output = { λ e. Some (shown_record_fault e) };
 
@@ -60,6 +61,7 @@ impl fmt::Display for RecordFault {
     }
 }
 
+// By hand, for the same reason.
 impl fmt::Display for OpenFault {
     ghost output = { λ e. Some (shown_open_fault e) };
 

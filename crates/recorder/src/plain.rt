@@ -11,6 +11,7 @@ const LIMIT: usize = 4096;
 /// Keeps the step at position i in word i - 1, signal k as the bit worth 2^k.
 #[derive(Drop)]
 pub struct PlainRecorder<'a> {
+    // A slice with a count, and no vector: the caller hands in the memory.
     words: &'a mut [u32],
     held: usize,
     width: u8,

@@ -22,6 +22,7 @@ impl GridTooSmall {
     }
 }
 
+// By hand: what `thiserror` derives has no contract on the text.
 impl fmt::Display for GridTooSmall {
     ghost output = { λ _. Some shown_grid_fault };
 

@@ -52,6 +52,7 @@ impl<'a, T: Copy> Grid<'a, T> {
     }
 
     /// Where the cell of row r at position i stands.
+    #[tactic(auto, using(crate::proofs::Places::inside))]
     fn spot(&self, r: usize, i: usize) -> usize
         requires { HasCell self.now r i }
         ensures place { result ≡ place self.now.positions r i }

@@ -16,6 +16,7 @@ use recorder::recording::Recording;
 use scales::scale::Scale;
 
 /// A formula, and the recording that it is evaluated over.
+// The grid is passed beside it: of a `&mut` in a struct in a struct, `evaluate` could not prove what it leaves.
 #[derive(Drop)]
 struct Evaluation<'f, 'r, R> {
     formula: &'f Formula,

@@ -7,7 +7,6 @@ use Rattle.ltl.specs.Rows.{Fits}
 use Rattle.ltl.specs.Tables.{AllFit}
 use Rattle.ltl.specs.declared.row.Row.{Row}
 use Rattle.ltl.specs.declared.row.Row.TheVariants.{Signal}
-use Rattle.ltl.proofs.Rows.{fits_tells, fits_test}
 use Rattle.ltl.proofs.formula.table.all_fit.Goals as goal
 
 abbrev Yes : ℕ → ℕ × Row → Type 0
@@ -31,5 +30,5 @@ returns c =
     let width = c.args.width in
     by_number _ width rows (cases_from_all _ _ _ (Yes width) (No width) c.all.ensures.ran
     (YieldsList-from_enumerate (YieldsList-from_slice rows cc) cc)
-    (λ x q k. search (rules, fits_tells))
-    (λ x q k. search (rules, fits_test)))
+    (λ x q k. search rules)
+    (λ x q k. search rules))
