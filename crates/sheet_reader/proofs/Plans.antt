@@ -19,7 +19,9 @@ use Rattle.sheet_reader.specs.declared.reading.Draft.{Draft}
 use Rattle.sheet_reader.specs.declared.reading.Name.{Name}
 use Rattle.sheet_reader.proofs.Ordered.{length_made}
 use Rattle.sheet_reader.proofs.Questions.{operator_yes, formula_yes, yes_room}
-use Rattle.sheet_reader.proofs.Sounds.{operated_size, known_from}
+use Rattle.sheet_reader.proofs.Sounds.{operated_size, known_from, sound_keyword, well_formed}
+use Rattle.ltl.specs.Tables.{WellFormed, table_from}
+use Rattle.sheet_reader.specs.Sound.{Sound}
 use Rattle.sheet_reader.specs.States.{state_of}
 use Rattle.sheet_reader.specs.declared.reading.Plan.{Plan}
 use Rattle.ltl.specs.declared.row.Row.TheVariants.{Signal}
@@ -140,6 +142,20 @@ module _ (sheet : List ℕ) (p : Plan) (first : ℕ) (ws : List Part) (end : ℕ
       let t = f.formula in
       let long = added_count p.draft p.counted f.added in
       sym (watch_by sheet st first end ws t f.asked ∙ no_room first (with_watch t st) (inr (omega arith)))
+
+  -- what such a line makes is a formula's table in the making
+  pub signal_sound : {w : Part} {xs : List Part} {rows : List Row} {names : List Name} → ask_name sheet (names_in p.names) ws end ≡ Ok (w, xs) → ask_nothing xs ≡ Ok tt → p.width < 32 → p.draft.count < 64 → rows ≡ take 64 (kept p.draft ++ Signal p.width ∷ []) → names ≡ names_in p.names ++ named w p.draft.count ∷ [] → Sound (making rows names (p.width + 1) p.watch)
+  signal_sound {w} {xs} e o signals some r n = sound_keyword sheet (state_of p) p.sound first key.Signal ws end _ (sym (signal_makes w xs e o signals some r n))
+
+  pub name_sound : {w : Part} {xs : List Part} {e n' row : ℕ} {k' : List Row} {names : List Name} → ask_name sheet (names_in p.names) ws end ≡ Ok (w, xs) → e ≡ end → ask_operator xs e ≡ Ok tt → Whole sheet (names_in p.names) xs e p.draft.count (kept p.draft) n' k' row → n' ≤ 64 → names ≡ names_in p.names ++ named w row ∷ [] → Sound (making k' names p.width p.watch)
+  name_sound {w} {xs} e same o f few n = sound_keyword sheet (state_of p) p.sound first key.Name ws end _ (sym (name_makes w xs e same o f few n))
+
+  pub watch_sound : {n' row : ℕ} {k' : List Row} → Whole sheet (names_in p.names) ws end p.draft.count (kept p.draft) n' k' row → n' ≤ 64 → Sound (making k' (names_in p.names) p.width (Some row))
+  watch_sound f few = sound_keyword sheet (state_of p) p.sound first key.Watch ws end _ (sym (watch_makes f few))
+
+-- a plan with a watch row has a formula's table
+pub plan_formed : (p : Plan) (w : ℕ) → p.watch ≡ Some w → WellFormed (table_from p.width p.draft.rows.items w)
+plan_formed p w e = well_formed (state_of p) w p.sound e
 
 -- the rows of the earlier names are below the draft's count
 pub known_in : (sheet : List ℕ) (p : Plan) → Known sheet (names_in p.names) p.draft.count
