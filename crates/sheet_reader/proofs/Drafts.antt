@@ -8,16 +8,13 @@ use Rattle.sheet_reader.specs.Drafts.{kept, Agree}
 use Rattle.sheet_reader.specs.declared.reading.Draft.{Draft}
 
 -- what `push` leaves, whatever a row is that is not kept
-abbrev pub Pushed : List Row → ℕ → Row → List Row → Type 0
-Pushed k n r after = (x : Row) → (n < 64 → r ≡ x) → after ≡ take 64 (k ++ x ∷ [])
-
-pub pushed_in : (k : List Row) (n : ℕ) (r : Row) (after : List Row) → length k ≡ min n 64 → length k < 64 → after ≡ k ++ r ∷ [] → Pushed k n r after
-pushed_in k n r after l h e x same =
+pub pushed_in : (k : List Row) (n : ℕ) (r x : Row) → length k ≡ min n 64 → length k < 64 → (n < 64 → r ≡ x) → k ++ r ∷ [] ≡ take 64 (k ++ x ∷ [])
+pushed_in k n r x l h same =
     let long : length (k ++ r ∷ []) ≤ 64 = simp length-append (omega arith) in
-    e ∙ sym (take_all 64 (k ++ r ∷ []) long) ∙ ap (λ y. take 64 (k ++ y ∷ [])) (same (omega arith))
+    sym (take_all 64 (k ++ r ∷ []) long) ∙ ap (λ y. take 64 (k ++ y ∷ [])) (same (omega arith))
 
-pub pushed_out : (k : List Row) (n : ℕ) (r : Row) (after : List Row) → length k ≡ 64 → after ≡ k → Pushed k n r after
-pushed_out k n r after l e x same = e ∙ sym (take-append-le 64 k (x ∷ []) (omega arith) ∙ take_all 64 k (omega arith))
+pub pushed_out : (k : List Row) (x : Row) → length k ≡ 64 → k ≡ take 64 (k ++ x ∷ [])
+pushed_out k x l = sym (take-append-le 64 k (x ∷ []) (omega arith) ∙ take_all 64 k (omega arith))
 
 pub kept_few : (d : Draft) → length (kept d) ≤ 64
 kept_few d = rw d.kept (omega arith)

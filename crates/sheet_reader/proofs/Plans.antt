@@ -4,22 +4,20 @@ use Rattle.std.proofs.lemmas.Bool.{lt-leb}
 use Rattle.std.proofs.lemmas.List.{length_push}
 use Rattle.ltl.specs.declared.row.Row.{Row}
 use Rattle.sheet.specs.Parts.{Part}
-use Rattle.sheet.specs.Tokens.{token_of}
-use Rattle.sheet.specs.declared.token.Keyword.{Keyword}
 use Rattle.sheet.specs.declared.token.Keyword.TheVariants as key
 use Rattle.sheet_reader.specs.Drafts.{kept, Added, Known, Whole}
 use Rattle.sheet_reader.specs.Grammar.{Written}
 use Rattle.sheet_reader.specs.Names.{named, names_in}
 use Rattle.sheet_reader.specs.Rows.{size, top, made}
-use Rattle.sheet_reader.specs.Sheets.{State, and_then, ask_name, ask_nothing, ask_operator, ask_formula, ask_room, with_signal, with_named, with_watch, words, end_of, ask_keyword, by_keyword, by_words, by_lines}
-use Rattle.sheet_faults.specs.declared.fault.FormulaFault.{FormulaFault}
-use Rattle.sheet_faults.specs.declared.fault.SheetFault.{SheetFault}
-use Rattle.sheet_faults.specs.declared.fault.SheetFault.TheVariants.{Formula, TooMany}
+use Rattle.sheet_reader.specs.Sheets.{State, ask_name, ask_nothing, ask_operator, ask_formula, ask_room, with_signal, with_named, with_watch, by_keyword}
+use Rattle.sheet_faults.specs.declared.fault.SheetFault.TheVariants.{TooMany}
 use Rattle.sheet_reader.specs.declared.reading.Draft.{Draft}
 use Rattle.sheet_reader.specs.declared.reading.Name.{Name}
 use Rattle.sheet_reader.proofs.Ordered.{length_made}
 use Rattle.sheet_reader.proofs.Questions.{operator_yes, formula_yes, yes_room}
-use Rattle.sheet_reader.proofs.Sounds.{operated_size, known_from}
+use Rattle.sheet_reader.proofs.Sounds.{operated_size, known_from, sound_keyword, well_formed}
+use Rattle.ltl.specs.Tables.{WellFormed, table_from}
+use Rattle.sheet_reader.specs.Sound.{Sound}
 use Rattle.sheet_reader.specs.States.{state_of}
 use Rattle.sheet_reader.specs.declared.reading.Plan.{Plan}
 use Rattle.ltl.specs.declared.row.Row.TheVariants.{Signal}
@@ -41,19 +39,10 @@ no_room p st h =
 
 module _ (sheet : List ℕ) (st : State) (p end : ℕ) (ws : List Part) where
   -- a signal line
-  pub signal_surplus : (w : Part) (xs : List Part) (f : FormulaFault) → ask_name sheet st.names ws end ≡ Ok (w, xs) → ask_nothing xs ≡ Err f → by_keyword sheet st p key.Signal ws end ≡ Err (Formula f)
-  signal_surplus w xs f e o = rw (e, o)
-
   pub signal_by : (w : Part) (xs : List Part) → ask_name sheet st.names ws end ≡ Ok (w, xs) → ask_nothing xs ≡ Ok tt → by_keyword sheet st p key.Signal ws end ≡ ask_room p (with_signal w st)
   signal_by w xs e o = rw (e, o)
 
   -- a name line
-  pub name_no_operator : (w : Part) (xs : List Part) (f : FormulaFault) → ask_name sheet st.names ws end ≡ Ok (w, xs) → ask_operator xs end ≡ Err f → by_keyword sheet st p key.Name ws end ≡ Err (Formula f)
-  name_no_operator w xs f e o = rw (e, o)
-
-  pub name_no_formula : (w : Part) (xs : List Part) (f : FormulaFault) → ask_name sheet st.names ws end ≡ Ok (w, xs) → ask_operator xs end ≡ Ok tt → ask_formula sheet st.names xs end ≡ Err f → by_keyword sheet st p key.Name ws end ≡ Err (Formula f)
-  name_no_formula w xs f e o q = rw (e, o, q)
-
   pub name_by : (w : Part) (xs : List Part) (t : Written) → ask_name sheet st.names ws end ≡ Ok (w, xs) → ask_operator xs end ≡ Ok tt → ask_formula sheet st.names xs end ≡ Ok t → by_keyword sheet st p key.Name ws end ≡ ask_room p (with_named w t st)
   name_by w xs t e o q = rw (e, o, q)
 
@@ -141,17 +130,20 @@ module _ (sheet : List ℕ) (p : Plan) (first : ℕ) (ws : List Part) (end : ℕ
       let long = added_count p.draft p.counted f.added in
       sym (watch_by sheet st first end ws t f.asked ∙ no_room first (with_watch t st) (inr (omega arith)))
 
+  -- what such a line makes is a formula's table in the making
+  pub signal_sound : {w : Part} {xs : List Part} {rows : List Row} {names : List Name} → ask_name sheet (names_in p.names) ws end ≡ Ok (w, xs) → ask_nothing xs ≡ Ok tt → p.width < 32 → p.draft.count < 64 → rows ≡ take 64 (kept p.draft ++ Signal p.width ∷ []) → names ≡ names_in p.names ++ named w p.draft.count ∷ [] → Sound (making rows names (p.width + 1) p.watch)
+  signal_sound {w} {xs} e o signals some r n = sound_keyword sheet (state_of p) p.sound first key.Signal ws end _ (sym (signal_makes w xs e o signals some r n))
+
+  pub name_sound : {w : Part} {xs : List Part} {e n' row : ℕ} {k' : List Row} {names : List Name} → ask_name sheet (names_in p.names) ws end ≡ Ok (w, xs) → e ≡ end → ask_operator xs e ≡ Ok tt → Whole sheet (names_in p.names) xs e p.draft.count (kept p.draft) n' k' row → n' ≤ 64 → names ≡ names_in p.names ++ named w row ∷ [] → Sound (making k' names p.width p.watch)
+  name_sound {w} {xs} e same o f few n = sound_keyword sheet (state_of p) p.sound first key.Name ws end _ (sym (name_makes w xs e same o f few n))
+
+  pub watch_sound : {n' row : ℕ} {k' : List Row} → Whole sheet (names_in p.names) ws end p.draft.count (kept p.draft) n' k' row → n' ≤ 64 → Sound (making k' (names_in p.names) p.width (Some row))
+  watch_sound f few = sound_keyword sheet (state_of p) p.sound first key.Watch ws end _ (sym (watch_makes f few))
+
+-- a plan with a watch row has a formula's table
+pub plan_formed : (p : Plan) (w : ℕ) → p.watch ≡ Some w → WellFormed (table_from p.width p.draft.rows.items w)
+plan_formed p w e = well_formed (state_of p) w p.sound e
+
 -- the rows of the earlier names are below the draft's count
 pub known_in : (sheet : List ℕ) (p : Plan) → Known sheet (names_in p.names) p.draft.count
 known_in sheet p t r e = omega (arith, known_from sheet (names_in p.names) (length (kept p.draft)) p.sound.named t r e, kept_all p.draft p.counted)
-
--- a line by its keyword
-pub words_by : (sheet : List ℕ) (st : State) (ws : List Part) (end : ℕ) (w : Part) (xs : List Part) (k : Keyword) → ws ≡ w ∷ xs → Ok k ≡ ask_keyword st.watch w.at (token_of w.text w.at) → by_words sheet st ws end ≡ by_keyword sheet st w.at k xs end
-words_by sheet st ws end w xs k cut e = ap (λ l. by_words sheet st l end) cut ∙ ap (λ r. and_then r (λ k. by_keyword sheet st w.at k xs end)) (sym e)
-
--- the lines by the first of them
-pub lines_more : (sheet : List ℕ) (st st' : State) (ls : List Part) (l : Part) (more : List Part) → ls ≡ l ∷ more → Ok st' ≡ by_words sheet st (words l) (end_of l) → by_lines sheet st ls ≡ by_lines sheet st' more
-lines_more sheet st st' ls l more cut e = ap (by_lines sheet st) cut ∙ ap (λ r. and_then r (λ x. by_lines sheet x more)) (sym e)
-
-pub lines_stop : (sheet : List ℕ) (st : State) (f : SheetFault) (ls : List Part) (l : Part) (more : List Part) → ls ≡ l ∷ more → Err f ≡ by_words sheet st (words l) (end_of l) → by_lines sheet st ls ≡ Err f
-lines_stop sheet st f ls l more cut e = ap (by_lines sheet st) cut ∙ ap (λ r. and_then r (λ x. by_lines sheet x more)) (sym e)

@@ -8,23 +8,13 @@ use Rattle.sheet.specs.declared.token.Unary.{Unary}
 use Rattle.sheet.specs.declared.token.Unary.TheVariants as unary
 use Rattle.sheet.specs.declared.token.Binary.{Binary}
 use Rattle.sheet.specs.declared.token.Binary.TheVariants as binary
-use Rattle.sheet_reader.specs.Drafts.{Got, Bad}
+use Rattle.sheet_reader.specs.Drafts.{Got}
 use Rattle.sheet_reader.specs.Grammar.{earlier, one, two, Symbol, takes0, takes1, takes2, spelt, wrong, bare, symbol, known}
 use Rattle.sheet_reader.specs.Names.{row_named}
 use Rattle.sheet_reader.specs.Sheets.{symbols_of}
 use Rattle.sheet_reader.specs.Rows.{size, size1, size2, top, made, rows1, rows2}
-use Rattle.sheet_faults.specs.declared.fault.FormulaFault.{FormulaFault}
 use Rattle.sheet_reader.specs.declared.reading.Name.{Name}
 use Rattle.sheet_reader.proofs.Drafts.{and_more}
-
-pub bad_one : (end : ℕ) (q : FormulaFault) {ws ws' : List (Symbol × ℕ)} {p : ℕ} {u : Unary} → ws ≡ (takes1 u, p) ∷ ws' → Bad ws' end q → Bad ws end q
-bad_one end q e b m = ap (λ l. wrong l end (suc m)) e ∙ b m
-
-pub bad_left : (end : ℕ) (q : FormulaFault) {ws ws' : List (Symbol × ℕ)} {p : ℕ} {o : Binary} → ws ≡ (takes2 o, p) ∷ ws' → Bad ws' end q → Bad ws end q
-bad_left end q e b m = ap (λ l. wrong l end (suc m)) e ∙ b (suc m)
-
-pub bad_right : (q : FormulaFault) {ws ws₁ ws₂ : List (Symbol × ℕ)} {end p n n₁ a : ℕ} {k k₁ : List Row} {o : Binary} → ws ≡ (takes2 o, p) ∷ ws₁ → Got ws₁ ws₂ end n k n₁ k₁ a → Bad ws₂ end q → Bad ws end q
-bad_right q {end = end} e g b m = ap (λ l. wrong l end (suc m)) e ∙ g.passes (suc m) ∙ b m
 
 pub got_earlier : {ws ws' : List (Symbol × ℕ)} {p r : ℕ} (end n : ℕ) (k : List Row) → ws ≡ (takes0 r, p) ∷ ws' → length k ≤ 64 → Got ws ws' end n k n k r
 got_earlier {r = r} end n k e l = record {

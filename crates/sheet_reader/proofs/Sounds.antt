@@ -14,11 +14,11 @@ use Rattle.sheet_reader.specs.Laws.{Spell}
 use Rattle.sheet_reader.specs.Lines.{Room, Operated, LineBy, Adds, Makes}
 use Rattle.sheet_reader.specs.Names.{named, text_of, row_named}
 use Rattle.sheet_reader.specs.Rows.{size, top, made}
-use Rattle.sheet_reader.specs.Sheets.{State, start, words, symbols_of, with_signal, with_named, with_watch, by_keyword, by_words}
+use Rattle.sheet_reader.specs.Sheets.{State, start, words, symbols_of, with_signal, with_named, with_watch, by_keyword}
 use Rattle.sheet_reader.specs.Sound.{Ordered, NamedBelow, Sound}
 use Rattle.sheet_reader.specs.declared.reading.Name.{Name}
 use Rattle.sheet_reader.proofs.Forests.{zero_one}
-use Rattle.sheet_reader.proofs.Lines.{adds_from, by_yes}
+use Rattle.sheet_reader.proofs.Lines.{by_yes}
 use Rattle.sheet_reader.proofs.Prefix.{few1, few2}
 use Rattle.sheet_reader.proofs.Ordered.{ordered_append, ordered_wider, ordered_made, all_fit, Below, length_made, top_below, spelt_below}
 
@@ -127,9 +127,6 @@ sound_keyword sheet st s p k ws end st' e = sound_line sheet st s k ws st' (by_y
 pub sound_adds : (sheet : List ℕ) (st : State) → Sound st → (ws : List Part) (st' : State) → Adds sheet st ws st' → Sound st'
 sound_adds sheet st s [] st' e = subst Sound (sym e) s
 sound_adds sheet st s (w ∷ ws) st' l = sound_line sheet st s l.kind ws st' l.line
-
-pub sound_words : (sheet : List ℕ) (st : State) → Sound st → (ws : List Part) (end : ℕ) (st' : State) → by_words sheet st ws end ≡ Ok st' → Sound st'
-sound_words sheet st s ws end st' e = sound_adds sheet st s ws st' (adds_from sheet st ws end st' e)
 
 pub sound_makes : (sheet : List ℕ) (st : State) → Sound st → (ls : List Part) (st' : State) → Makes sheet st ls st' → Sound st'
 sound_makes sheet st s [] st' e = subst Sound (sym e) s

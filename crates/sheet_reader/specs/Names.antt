@@ -1,5 +1,6 @@
 -- Declared names, and the row that a word names.
 use Rattle.std.specs.Prelude.{ℕ, cond, List, [], ◌∷◌, length, take, drop, Some, None, Option, ◌==◌}
+use Rattle.std.specs.List.{find}
 use Rattle.std.specs.Str.{bytes_eq}
 use Rattle.arrayvec.specs.ArrayVec.{ArrayVec}
 use Rattle.sheet.specs.Parts.{Part}
@@ -24,5 +25,4 @@ row_named sheet (n ∷ ns) t = cond (bytes_eq (text_of sheet n) t) (Some n.row) 
 
 -- the first declared name of a row
 abbrev pub name_of : List Name → ℕ → Option Name
-name_of [] r = None
-name_of (n ∷ ns) r = cond (n.row == r) (Some n) (name_of ns r)
+name_of names r = find (λ n. n.row == r) names

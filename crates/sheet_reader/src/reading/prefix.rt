@@ -58,6 +58,7 @@ impl<'a> Declared<'a> {
     }
 
     /// Reads all the words as one formula, and tells its row.
+    #[tactic(auto, using(crate::proofs::Counts::few_parts, crate::proofs::Wholes::whole))]
     fn whole_formula(&self, mut words: Words, draft: &mut Draft) -> Result<usize, FormulaFault>
         requires known { Known self.now.sheet.now (names_in self.now.names.now) draft.old.count }
         requires few { draft.old.count ≤ 64 }

@@ -28,6 +28,7 @@ impl Draft {
     }
 
     /// Counts one row more and keeps it where it is one of the first 64.
+    #[tactic(auto, using(crate::proofs::Drafts::pushed_in, crate::proofs::Drafts::pushed_out))]
     pub(super) fn push(&mut self, row: Row)
         requires { self.old.count < 65536 }
         ensures count { self.new.count ≡ self.old.count + 1 }

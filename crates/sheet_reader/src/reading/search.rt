@@ -1,5 +1,7 @@
 //! The row of a name, and the name of a row.
 ghost use Rattle.std.specs.Prelude.{◌≡◌, Some, None, MatchResult};
+ghost use Rattle.std.specs.List.{find};
+ghost use Rattle.std.specs.Str.{bytes_eq};
 ghost use Rattle.sheet_reader.specs.Names.{names_in, text_of, row_named, name_of};
 
 use super::{Declared, Name};
@@ -17,15 +19,23 @@ impl Name {
 }
 
 impl<'a> Declared<'a> {
-    /// The row of the first name with these bytes.
-    pub(super) fn row_named(&self, text: &[u8]) -> Option<usize>
-        ensures { result ≡ row_named self.now.sheet.now (names_in self.now.names.now) text.now }
+    /// The first name with these bytes.
+    fn first_named(&self, text: &[u8]) -> Option<Name>
+        ensures { result ≡ find (λ n. bytes_eq (text_of self.now.sheet.now n) text.now) (names_in self.now.names.now) }
     {
         let sheet = self.sheet;
         self.names
             .iter()
+            .copied()
             .find(|name| name.text_in(sheet) == text)
-            .map(|name| name.row)
+    }
+
+    /// The row of the first name with these bytes.
+    #[tactic(auto, using(crate::proofs::Searches::row_is))]
+    pub(super) fn row_named(&self, text: &[u8]) -> Option<usize>
+        ensures { result ≡ row_named self.now.sheet.now (names_in self.now.names.now) text.now }
+    {
+        self.first_named(text).map(|name| name.row)
     }
 
     /// The same where a word has to be such a name.
@@ -40,6 +50,6 @@ impl<'a> Declared<'a> {
     pub(super) fn name_of(&self, row: usize) -> Option<Name>
         ensures { result ≡ name_of (names_in self.now.names.now) row }
     {
-        self.names.iter().find(|name| name.row == row).copied()
+        self.names.iter().copied().find(|name| name.row == row)
     }
 }

@@ -1,5 +1,5 @@
 //! The line reader: signal, name and watch lines, and the sheet that they make.
-ghost use Rattle.std.specs.Prelude.{◌≡◌, ◌≤◌, length, Ok, Err, MatchResult};
+ghost use Rattle.std.specs.Prelude.{◌≡◌, ◌≤◌, length, Ok, Err, MatchResult, not, position};
 ghost use Rattle.sheet.specs.Cuts.{part_of, parts_left, end_of};
 ghost use Rattle.sheet.specs.Tokens.{token_of};
 ghost use Rattle.sheet.specs.declared.token.Keyword.TheVariants as key;
@@ -108,6 +108,7 @@ impl Plan {
     }
 
     /// The plan with a signal line.
+    #[tactic(auto, using(crate::proofs::Plans::signal_makes))]
     fn with_signal(self, line: Line) -> Result<Plan, SheetFault>
         ensures { told_plan result ≡ by_keyword line.entry.sheet.now (state_of self) line.entry.first key.Signal (parts_left line.entry.words) (end_of line.entry.words) }
     {
@@ -142,6 +143,7 @@ impl Plan {
     }
 
     /// The plan with a name line.
+    #[tactic(auto, using(crate::proofs::Plans::known_in, crate::proofs::Plans::name_full, crate::proofs::Plans::name_room, crate::proofs::Plans::name_makes))]
     fn with_name(self, line: Line) -> Result<Plan, SheetFault>
         ensures { told_plan result ≡ by_keyword line.entry.sheet.now (state_of self) line.entry.first key.Name (parts_left line.entry.words) (end_of line.entry.words) }
     {
@@ -176,6 +178,7 @@ impl Plan {
     }
 
     /// The plan with the watch line.
+    #[tactic(auto, using(crate::proofs::Plans::known_in, crate::proofs::Plans::watch_sound))]
     fn with_watch(self, line: Line) -> Result<Plan, SheetFault>
         ensures { told_plan result ≡ by_keyword line.entry.sheet.now (state_of self) line.entry.first key.Watch (parts_left line.entry.words) (end_of line.entry.words) }
     {
@@ -228,6 +231,7 @@ impl Plan {
     }
 
     /// Question 7: the formula of the lines and its names.
+    #[tactic(auto, using(crate::proofs::Plans::plan_formed))]
     fn finish(self, sheet: &[u8]) -> Result<Sheet, SheetFault>
         ensures { told result ≡ finished (length sheet.now) (state_of self) self.watch }
     {
@@ -246,6 +250,7 @@ impl Plan {
 }
 
 /// Reads the lines of a sheet.
+#[tactic(auto, using(crate::proofs::Counts::line_inside))]
 fn read_lines(sheet: &[u8]) -> Result<Plan, SheetFault>
     requires { length sheet.now ≤ 4096 }
     ensures { told_plan result ≡ by_lines sheet.now start (lines sheet.now) }
@@ -265,11 +270,19 @@ fn allowed(b: u8) -> bool
     matches!(b, b'\n' | 32..=126)
 }
 
+/// Where the first byte stands that a sheet may not hold.
+fn foreign_byte(sheet: &[u8]) -> Option<usize>
+    ensures { result ≡ position (λ b. not (allowed b)) sheet.now }
+{
+    sheet.iter().position(|b| !allowed(*b))
+}
+
 /// Question 2: whether every byte is 10 or from 32 to 126.
+#[tactic(auto, using(crate::proofs::Bytes::foreign_is))]
 fn check_bytes(sheet: &[u8]) -> Result<(), SheetFault>
     ensures { result ≡ unless (foreign_byte 0 sheet.now) }
 {
-    match sheet.iter().position(|b| !allowed(*b)) {
+    match foreign_byte(sheet) {
         Some(at) => Err(SheetFault::ForeignByte { at }),
         None => Ok(()),
     }

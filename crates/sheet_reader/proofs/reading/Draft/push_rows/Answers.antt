@@ -8,16 +8,11 @@ loop-row-preserved c =
     let inv = c.loop-row.invariant in
     let d = c.loop-row.self in
     let k = kept c.args.self.now in (
-      omega (arith, inv.0, c.push.ensures.count),
+      omega arith,
       λ xs a. left_more (kept d) _ d.count _ c.args.rows.now xs c.loop-row.row-index (take 64 (k ++ xs)) c.loop-row-test.true c.push.ensures.count c.push.ensures.rows (inv.1 xs a),
     )
 
-pub returns : goal.returns
-returns c =
-    let inv = c.loop-row.invariant in
+pub returns-clause-rows : goal.returns-clause-rows
+returns-clause-rows c =
     let d = c.loop-row.self in
-    record {
-      last = omega (arith, inv.0, c.loop-row-test.false);
-      count = omega (arith, inv.0, c.loop-row-test.false);
-      rows = λ xs a. left_none (kept d) d.count c.args.rows.now xs c.loop-row.row-index (take 64 (kept c.args.self.now ++ xs)) (kept_few d) c.loop-row-test.false (inv.1 xs a);
-    }
+    λ xs a. left_none (kept d) d.count c.args.rows.now xs c.loop-row.row-index (take 64 (kept c.args.self.now ++ xs)) (kept_few d) c.loop-row-test.false (c.loop-row.invariant.1 xs a)
