@@ -19,8 +19,6 @@ pub fn filled<S: Scale, R: Recording>(
 {
     let cells = formula.row_count() * (recording.len() + 1);
     let mut values = vec![in heap; S::past(); cells]?;
-    match evaluate(formula, recording, values.as_mut_slice()) {
-        Ok(()) => Ok(values),
-        Err(_) => unreachable(),
-    }
+    evaluate(formula, recording, values.as_mut_slice()).unwrap();
+    Ok(values)
 }

@@ -29,17 +29,16 @@ fn record_line<N: SignalNames, R: Recorder>(
     ensures { MatchResult result (λ _. Tells (line_of (N.named names.now) (parts 32 0 line.entry.text.now)) × (R.Recording.steps recorder.new ≡ R.Recording.steps recorder.old ++ step_of (line_of (N.named names.now) (parts 32 0 line.entry.text.now)))) (λ f. (R.Recording.steps recorder.new ≡ R.Recording.steps recorder.old) × Stops (λ s. record_answer (R.Recording.width recorder.new) (R.Recorder.room recorder.new s) (length (R.Recording.steps recorder.new)) s) (line_of (N.named names.now) (parts 32 0 line.entry.text.now)) line.entry.at f) }
 {
     let at = line.at;
-    match step_line(names, line.text) {
-        Ok(None) => Ok(()),
-        Ok(Some(step)) => match recorder.record(step) {
-            Ok(_) => Ok(()),
-            Err(fault) => Err(StepFault::Refused { line: at, fault }),
-        },
-        Err(strange) => Err(StepFault::Strange {
-            line: at,
-            word: strange.at,
-        }),
+    let told = step_line(names, line.text).map_err(|strange| StepFault::Strange {
+        line: at,
+        word: strange.at,
+    })?;
+    if let Some(step) = told {
+        recorder
+            .record(step)
+            .map_err(|fault| StepFault::Refused { line: at, fault })?;
     }
+    Ok(())
 }
 
 /// Records the steps that the lines tell, by the names of signals, and ends at the first line that tells none or is

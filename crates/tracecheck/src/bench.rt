@@ -22,8 +22,5 @@ pub fn bench() -> Formula
         Row::Eventually(5),
         Row::Not(6),
     ];
-    match Formula::new(2, &rows, 7) {
-        Some(formula) => formula,
-        None => unreachable(),
-    }
+    Formula::new(2, &rows, 7).unwrap()
 }

@@ -27,7 +27,7 @@ fn record_line<R: Recorder>(
     recorder: &mut R,
     heap: Global,
     line: &str,
-    number: usize,
+    number: u64,
 ) -> anyhow::Result<()> {
     match read_line(line.as_bytes()) {
         Ok(None) => Ok(()),
@@ -50,9 +50,7 @@ fn record_line<R: Recorder>(
 /// Records the step of every line of standard input.
 fn record_lines<R: Recorder>(rt: &HostRuntime, recorder: &mut R) -> anyhow::Result<()> {
     let heap = rt.alloc();
-    let mut number: usize = 0;
-    for line in BufReader::new(heap, rt.stdin())?.lines(heap) {
-        number = number.saturating_add(1);
+    for (number, line) in (1..u64::MAX).zip(BufReader::new(heap, rt.stdin())?.lines(heap)) {
         match line {
             Ok(line) => record_line(recorder, heap, line.as_str(), number)?,
             Err(e) => return Err(anyhow!(format!(in heap; "line {number}: {e}")?)),

@@ -3,12 +3,6 @@ use Rattle.ltl.specs.Tables.{Table}
 use Rattle.ltl.specs.Trees.{trees, trees_after, tree_at}
 use Rattle.tracecheck.proofs.bench.bench.Goals as goal
 
-pub returns : goal.returns
+pub returns-clause-tree : goal.returns-clause-tree
 unfolding trees_after
-returns c =
-    let e = c.in-Some.ensures.0 in
-    record {
-      watch = ap (λ (t : Table). t.watch) e;
-      tree = ap (λ (t : Table). tree_at (trees t.rows) 7) e;
-      width = ap (λ (t : Table). t.width) e;
-    }
+returns-clause-tree c = ap (λ (t : Table). tree_at (trees t.rows) 7) (rw c.unwrap.ensures at c.new.ensures).0
