@@ -110,3 +110,8 @@ shifted_out s width = ⊎_elim
     (λ (h : s < 2 ^ width). let z : s / 2 ^ width ≡ 0 = div-eq_of_lt h in eq-eqb (s / 2 ^ width) 0 z ∙ sym (lt-ltb s (2 ^ width) h))
     (λ (h : 2 ^ width ≤ s). ne_eqb (s / 2 ^ width) 0 (λ e. omega (arith, le-div 1 s (2 ^ width) (pow_pos width) (omega arith))) ∙ sym (le-ltb s (2 ^ width) h))
     (cases_lt s (2 ^ width))
+
+-- a set with one signal more, and what the tests against a width decide
+pub ruleset one_more = (has_more, one_shifted)
+
+pub ruleset widths = (below_test, wide, has_high, shifted_out)

@@ -60,3 +60,6 @@ module _ {W : Type 0} (took : W → List ℕ → W → Type 0) (first now : Form
     shown_all next h w =
         let e : s.text ≡ codes "{" ++ commas (signals_from 64 0 step) = sym (append-nil s.text) ∙ rw (none_left 64 k step h) at s.whole in
         rw e at (has_written_append took first s.text now (codes "}") next s.wrote w)
+
+-- what the loop over the signals of a step keeps
+pub ruleset shown = (shown_none, shown_absent, shown_all)

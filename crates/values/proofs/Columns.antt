@@ -63,3 +63,6 @@ module _ {V : Type 0} (o : Ops V) (steps : List ℕ) (f : Formula) (grid : Grid 
 -- a row of a column is in the grid
 pub column_has : {V : Type 0} {o : Ops V} {steps : List ℕ} {f : Formula} (grid : Grid V) (i k r : ℕ) → Stands o steps f grid i k → r < row_count f → 1 ≤ i → i ≤ grid.positions → HasCell grid r i
 column_has grid i k r stands b l m = record { wide = stands.ready.wide; row = omega (arith, stands.ready.rows_is); first = l; last = m }
+
+-- what the filling of a grid keeps from column to column
+pub ruleset one_column_more = (frame_same, frame_trans, stands_none, stands_next)

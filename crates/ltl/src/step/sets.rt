@@ -35,7 +35,7 @@ impl Step {
     }
 
     /// The step with one signal more, or nothing for a signal above 63.
-    #[tactic(auto, using(crate::proofs::Sets::has_more, crate::proofs::Sets::one_shifted))]
+    #[tactic(auto, using(crate::proofs::Sets::one_more))]
     pub fn with(self, signal: u8) -> Option<Step>
         ensures { MatchOption result (64 ≤ signal) (λ s. (signal < 64) × (set_of s ≡ bit_or (set_of self) (2 ^ signal)) × ((k : ℕ) → has (set_of s) k ≡ (has (set_of self) k || k == signal))) }
     {
@@ -48,7 +48,7 @@ impl Step {
     }
 
     /// Whether every signal of the step is below a width.
-    #[tactic(auto, using(crate::proofs::Sets::below_test, crate::proofs::Sets::wide, crate::proofs::Sets::has_high, crate::proofs::Sets::shifted_out))]
+    #[tactic(auto, using(crate::proofs::Sets::widths))]
     pub fn is_below(self, width: u8) -> bool
         ensures value { result ≡ nat_lt (set_of self) (2 ^ width) }
         ensures signals { IsTrue result ↔ Below width (set_of self) }

@@ -8,6 +8,7 @@ use std::fmt;
 impl fmt::Display for Step {
     ghost output = { λ s. Some (shown_step s) };
 
+    #[tactic(auto, using(crate::proofs::Signals::shown))]
     fn fmt<W: fmt::Write>(&self, f: &mut fmt::Formatter<W>) -> fmt::Result {
         f.write_str("{")?;
         let mut before = "";

@@ -72,6 +72,7 @@ impl<'f, 'r, R: Recording> Evaluation<'f, 'r, R> {
     }
 
     /// Fills column i, where the columns after it stand.
+    #[tactic(auto, using(crate::proofs::Columns::column_has))]
     fn column<S: Scale>(&self, grid: &mut Grid<S>, i: usize)
         requires within { (1 ≤ i) × (i ≤ grid.old.positions) }
         requires stands { Stands S.ops (R.steps self.now.recording.now) self.now.formula.now grid.old i 0 }
@@ -86,6 +87,7 @@ impl<'f, 'r, R: Recording> Evaluation<'f, 'r, R> {
     }
 
     /// Fills the grid: every cell of a row and a position holds the row's value there.
+    #[tactic(auto, using(crate::proofs::Columns::one_column_more))]
     fn fill<S: Scale>(&self, grid: &mut Grid<S>)
         requires { Ready (row_count self.now.formula.now) (length (R.steps self.now.recording.now)) (length grid.old.cells.now) grid.old.rows grid.old.positions }
         ensures cells { Filled S.ops S.atleast (R.width self.now.recording.now) (R.steps self.now.recording.now) self.now.formula.now grid.old.cells.now grid.new.cells.now }

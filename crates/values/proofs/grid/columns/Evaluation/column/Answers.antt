@@ -2,11 +2,6 @@ use Rattle.std.proofs.Common.{arith}
 use Rattle.values.proofs.Columns.{frame_trans, frame_stored, stands_stored, column_has}
 use Rattle.values.proofs.grid.columns.Evaluation.column.Goals as goal
 
-pub cell-v-requires-clause-inside : goal.cell-v-requires-clause-inside
-cell-v-requires-clause-inside g c =
-    let inv = c.loop-r.invariant in
-    column_has _ _ _ c.loop-r.r inv.stands (omega arith) (omega arith) (omega (arith, inv.frame.positions_is))
-
 pub loop-r-preserved : goal.loop-r-preserved
 loop-r-preserved g c =
     let inv = c.loop-r.invariant in

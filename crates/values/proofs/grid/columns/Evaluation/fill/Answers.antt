@@ -4,22 +4,8 @@ use Rattle.ltl.proofs.Examples.{worked}
 use Rattle.ltl.proofs.Promises.{order_told, open_told, pair_told}
 use Rattle.ltl.proofs.Sound.{soundness}
 use Rattle.ltl.proofs.Truer.{stays}
-use Rattle.values.proofs.Columns.{frame_same, frame_trans, stands_none, stands_next, stands_all}
+use Rattle.values.proofs.Columns.{stands_all}
 use Rattle.values.proofs.grid.columns.Evaluation.fill.Goals as goal
-
-pub loop-i-init : goal.loop-i-init
-loop-i-init g c = record { stands = stands_none g.S.Scale.ops _ c.args.self.now.formula.now _ _ c.requires (omega arith); frame = frame_same _ }
-
-pub column-requires-clause-within : goal.column-requires-clause-within
-column-requires-clause-within g c = (c.loop-i-test.true, omega (arith, c.loop-i.invariant.frame.positions_is))
-
-pub loop-i-preserved : goal.loop-i-preserved
-loop-i-preserved g c =
-    let after = c.column.ensures in
-    record {
-      stands = stands_next g.S.Scale.ops _ c.args.self.now.formula.now _ c.loop-i.i _ (omega arith) after.stands;
-      frame = frame_trans _ _ _ c.loop-i.invariant.frame after.frame;
-    }
 
 pub returns : goal.returns
 returns g c =
