@@ -112,25 +112,21 @@ impl Plan {
     fn with_signal(self, line: Line) -> Result<Plan, SheetFault>
         ensures { told_plan result ≡ by_keyword line.entry.sheet.now (state_of self) line.entry.first key.Signal (parts_left line.entry.words) (end_of line.entry.words) }
     {
-        let Line {
-            sheet,
-            mut words,
-            first,
-        } = line;
         let Plan {
             mut draft,
             mut names,
             width,
             watch,
         } = self;
+        let mut words = line.words;
         let declared = Declared {
-            sheet,
+            sheet: line.sheet,
             names: &names,
         };
         let name = declared.new_name(&mut words)?;
         nothing_more(words)?;
         if width >= SIGNALS || draft.count >= ROWS {
-            return Err(SheetFault::TooMany { at: first });
+            return Err(SheetFault::TooMany { at: line.first });
         }
         names.push(Name::new(name, draft.count));
         draft.push(Row::Signal(width));
@@ -147,26 +143,22 @@ impl Plan {
     fn with_name(self, line: Line) -> Result<Plan, SheetFault>
         ensures { told_plan result ≡ by_keyword line.entry.sheet.now (state_of self) line.entry.first key.Name (parts_left line.entry.words) (end_of line.entry.words) }
     {
-        let Line {
-            sheet,
-            mut words,
-            first,
-        } = line;
         let Plan {
             mut draft,
             mut names,
             width,
             watch,
         } = self;
+        let mut words = line.words;
         let declared = Declared {
-            sheet,
+            sheet: line.sheet,
             names: &names,
         };
         let name = declared.new_name(&mut words)?;
         operator_first(words)?;
         let row = declared.whole_formula(words, &mut draft)?;
         if draft.count > ROWS {
-            return Err(SheetFault::TooMany { at: first });
+            return Err(SheetFault::TooMany { at: line.first });
         }
         names.push(Name::new(name, row));
         Ok(Plan {
@@ -182,11 +174,6 @@ impl Plan {
     fn with_watch(self, line: Line) -> Result<Plan, SheetFault>
         ensures { told_plan result ≡ by_keyword line.entry.sheet.now (state_of self) line.entry.first key.Watch (parts_left line.entry.words) (end_of line.entry.words) }
     {
-        let Line {
-            sheet,
-            words,
-            first,
-        } = line;
         let Plan {
             mut draft,
             names,
@@ -194,12 +181,12 @@ impl Plan {
             watch: _,
         } = self;
         let declared = Declared {
-            sheet,
+            sheet: line.sheet,
             names: &names,
         };
-        let row = declared.whole_formula(words, &mut draft)?;
+        let row = declared.whole_formula(line.words, &mut draft)?;
         if draft.count > ROWS {
-            return Err(SheetFault::TooMany { at: first });
+            return Err(SheetFault::TooMany { at: line.first });
         }
         Ok(Plan {
             draft,
@@ -235,15 +222,13 @@ impl Plan {
     fn finish(self, sheet: &[u8]) -> Result<Sheet, SheetFault>
         ensures { told result ≡ finished (length sheet.now) (state_of self) self.watch }
     {
-        let Plan {
-            draft,
-            names,
-            width,
-            watch,
-        } = self;
-        let watch = watch.ok_or(SheetFault::NoWatch { at: sheet.len() })?;
-        match Formula::new(width, &draft.rows, watch) {
-            Some(formula) => Ok(Sheet { formula, names }),
+        let at = sheet.len();
+        let watch = self.watch.ok_or(SheetFault::NoWatch { at })?;
+        match Formula::new(self.width, &self.draft.rows, watch) {
+            Some(formula) => Ok(Sheet {
+                formula,
+                names: self.names,
+            }),
             None => unreachable(),
         }
     }
