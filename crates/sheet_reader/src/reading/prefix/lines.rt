@@ -87,8 +87,9 @@ impl<'a> Declared<'a> {
         ensures name { MatchResult result (λ w. ask_name self.now.sheet.now (names_in self.now.names.now) (parts_left words.old) (end_of words.old) ≡ Ok (part_of w, parts_left words.new)) (λ f. ask_name self.now.sheet.now (names_in self.now.names.now) (parts_left words.old) (end_of words.old) ≡ Err f) }
         ensures end { end_of words.new ≡ end_of words.old }
     {
-        let word = words.next_part();
-        let word = word.ok_or(NameFault::Missing { at: words.end() })?;
+        let word = words
+            .next_part()
+            .ok_or(NameFault::Missing { at: words.end() })?;
         self.fresh(word)?;
         Ok(word)
     }
@@ -222,8 +223,7 @@ impl Plan {
     fn finish(self, sheet: &[u8]) -> Result<Sheet, SheetFault>
         ensures { told result ≡ finished (length sheet.now) (state_of self) self.watch }
     {
-        let at = sheet.len();
-        let watch = self.watch.ok_or(SheetFault::NoWatch { at })?;
+        let watch = self.watch.ok_or(SheetFault::NoWatch { at: sheet.len() })?;
         match Formula::new(self.width, &self.draft.rows, watch) {
             Some(formula) => Ok(Sheet {
                 formula,
