@@ -19,8 +19,9 @@ fn wanted_word<'a>(words: &mut Words<'a>) -> Result<Word<'a>, WordFault>
     ensures word { MatchResult result (λ w. parts_left words.old ≡ part_of w ∷ parts_left words.new) (λ f. (parts_left words.old ≡ []) × (f ≡ WordFault.Missing (end_of words.old))) }
     ensures end { end_of words.new ≡ end_of words.old }
 {
-    let word = words.next_part();
-    word.ok_or(WordFault::Missing { at: words.end() })
+    words
+        .next_part()
+        .ok_or(WordFault::Missing { at: words.end() })
 }
 
 /// Question 5 where a line is complete: no word follows.

@@ -41,6 +41,7 @@ impl Draft {
     }
 
     /// The same with some rows, of which the last is the operator's own; tells its number.
+    // `few` is no invariant of a draft: each row raises the count, and only the words of a sheet bound it.
     fn push_rows(&mut self, rows: &[Row]) -> usize
         requires few { self.old.count < 60000 }
         requires some { (0 < length rows.now) × (length rows.now ≤ 4) }

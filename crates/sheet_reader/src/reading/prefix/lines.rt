@@ -87,8 +87,9 @@ impl<'a> Declared<'a> {
         ensures name { MatchResult result (λ w. ask_name self.now.sheet.now (names_in self.now.names.now) (parts_left words.old) (end_of words.old) ≡ Ok (part_of w, parts_left words.new)) (λ f. ask_name self.now.sheet.now (names_in self.now.names.now) (parts_left words.old) (end_of words.old) ≡ Err f) }
         ensures end { end_of words.new ≡ end_of words.old }
     {
-        let word = words.next_part();
-        let word = word.ok_or(NameFault::Missing { at: words.end() })?;
+        let word = words
+            .next_part()
+            .ok_or(NameFault::Missing { at: words.end() })?;
         self.fresh(word)?;
         Ok(word)
     }
@@ -112,25 +113,21 @@ impl Plan {
     fn with_signal(self, line: Line) -> Result<Plan, SheetFault>
         ensures { told_plan result ≡ by_keyword line.entry.sheet.now (state_of self) line.entry.first key.Signal (parts_left line.entry.words) (end_of line.entry.words) }
     {
-        let Line {
-            sheet,
-            mut words,
-            first,
-        } = line;
         let Plan {
             mut draft,
             mut names,
             width,
             watch,
         } = self;
+        let mut words = line.words;
         let declared = Declared {
-            sheet,
+            sheet: line.sheet,
             names: &names,
         };
         let name = declared.new_name(&mut words)?;
         nothing_more(words)?;
         if width >= SIGNALS || draft.count >= ROWS {
-            return Err(SheetFault::TooMany { at: first });
+            return Err(SheetFault::TooMany { at: line.first });
         }
         names.push(Name::new(name, draft.count));
         draft.push(Row::Signal(width));
@@ -147,26 +144,22 @@ impl Plan {
     fn with_name(self, line: Line) -> Result<Plan, SheetFault>
         ensures { told_plan result ≡ by_keyword line.entry.sheet.now (state_of self) line.entry.first key.Name (parts_left line.entry.words) (end_of line.entry.words) }
     {
-        let Line {
-            sheet,
-            mut words,
-            first,
-        } = line;
         let Plan {
             mut draft,
             mut names,
             width,
             watch,
         } = self;
+        let mut words = line.words;
         let declared = Declared {
-            sheet,
+            sheet: line.sheet,
             names: &names,
         };
         let name = declared.new_name(&mut words)?;
         operator_first(words)?;
         let row = declared.whole_formula(words, &mut draft)?;
         if draft.count > ROWS {
-            return Err(SheetFault::TooMany { at: first });
+            return Err(SheetFault::TooMany { at: line.first });
         }
         names.push(Name::new(name, row));
         Ok(Plan {
@@ -182,11 +175,6 @@ impl Plan {
     fn with_watch(self, line: Line) -> Result<Plan, SheetFault>
         ensures { told_plan result ≡ by_keyword line.entry.sheet.now (state_of self) line.entry.first key.Watch (parts_left line.entry.words) (end_of line.entry.words) }
     {
-        let Line {
-            sheet,
-            words,
-            first,
-        } = line;
         let Plan {
             mut draft,
             names,
@@ -194,12 +182,12 @@ impl Plan {
             watch: _,
         } = self;
         let declared = Declared {
-            sheet,
+            sheet: line.sheet,
             names: &names,
         };
-        let row = declared.whole_formula(words, &mut draft)?;
+        let row = declared.whole_formula(line.words, &mut draft)?;
         if draft.count > ROWS {
-            return Err(SheetFault::TooMany { at: first });
+            return Err(SheetFault::TooMany { at: line.first });
         }
         Ok(Plan {
             draft,
@@ -235,15 +223,12 @@ impl Plan {
     fn finish(self, sheet: &[u8]) -> Result<Sheet, SheetFault>
         ensures { told result ≡ finished (length sheet.now) (state_of self) self.watch }
     {
-        let Plan {
-            draft,
-            names,
-            width,
-            watch,
-        } = self;
-        let watch = watch.ok_or(SheetFault::NoWatch { at: sheet.len() })?;
-        match Formula::new(width, &draft.rows, watch) {
-            Some(formula) => Ok(Sheet { formula, names }),
+        let watch = self.watch.ok_or(SheetFault::NoWatch { at: sheet.len() })?;
+        match Formula::new(self.width, &self.draft.rows, watch) {
+            Some(formula) => Ok(Sheet {
+                formula,
+                names: self.names,
+            }),
             None => unreachable(),
         }
     }
