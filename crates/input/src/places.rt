@@ -13,6 +13,7 @@ fn last_line_len(s: &[u8]) -> usize
 }
 
 /// How many bytes stand before the first byte 10.
+// Beside the one above, which differs in its direction: the iterator as a parameter would be longer than either line.
 fn first_line_len(s: &[u8]) -> usize
     ensures { result ≡ length (take_while (λ b. not (b == 10)) s.now) }
 {

@@ -45,6 +45,7 @@ pub enum Token<'a> {
 }
 
 /// The operator that a word is, if it is one.
+// An `Option` and no `TryFrom`, here and below: a word that is no operator or keyword is no error.
 fn operator_of(text: &[u8]) -> Option<Operator>
     ensures { result ≡ operator_of text.now }
 {

@@ -53,7 +53,7 @@ fn shown_line(heap: Global, text: &[u8], place: usize) -> anyhow::Result<String>
     let mut shown = String::new(heap);
     for b in &text[line] {
         let printed = *b == b' ' || b.is_ascii_graphic();
-        shown.push(if printed { *b as char } else { '.' })?;
+        shown.push(if printed { char::from(*b) } else { '.' })?;
     }
     shown.push('\n')?;
     for _ in start..place.min(text.len()) {
@@ -110,6 +110,7 @@ fn table(
 ) -> anyhow::Result<String> {
     let mut text = String::new(heap);
     writeln!(text, "position s f value")?;
+    // A range, since `i` is the position that is printed.
     for i in 1..=n.saturating_add(1) {
         let (Some(value), Some(pair)) = (values.get(row, i), counts.get(row, i)) else {
             return Err(anyhow!("a row has no cell"));
@@ -204,6 +205,7 @@ fn run(rt: &HostRuntime) -> anyhow::Result<ExitCode> {
     }
 }
 
+// Beside that of `tracecheck`, which differs in the name: a shared one would take the runtime, the name and the outcome.
 fn main(rt: HostRuntime) -> ExitCode {
     match run(&rt) {
         Ok(code) => code,

@@ -94,6 +94,7 @@ fn judged<R: Recording>(heap: Global, formula: &Formula, recording: &R) -> anyho
         text,
         "always implies r eventually g: signal 0 is r, signal 1 is g, row {watch} is watched"
     )?;
+    // A range, since `i` is the position that is printed.
     for i in 1..=positions {
         if i <= n {
             let step = recording.step(i);
@@ -123,6 +124,7 @@ fn run(rt: &HostRuntime) -> anyhow::Result<()> {
     Ok(())
 }
 
+// Beside that of `sheetcheck`, which differs in the name: a shared one would take the runtime, the name and the outcome.
 fn main(rt: HostRuntime) -> ExitCode {
     match run(&rt) {
         Ok(()) => ExitCode::SUCCESS,

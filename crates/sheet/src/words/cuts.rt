@@ -24,6 +24,7 @@ impl<'a, const SEPARATOR: u8> Parts<'a, SEPARATOR> {
     }
 
     /// The next part. Besides what an iterator says of its items, the offset of the end stays.
+    // Not clauses of `next`: with more than the trait's there, no `for` over the parts is proved.
     pub fn next_part(&mut self) -> Option<Word<'a>>
         ensures part { YieldsFirstBy part_of parts_left self.old result self.new }
         ensures within { IfSome result (λ w. w.at + length w.text.now ≤ end_of self.old) }
@@ -75,6 +76,7 @@ fn gap_len(s: &[u8], separator: u8) -> usize
 }
 
 /// How many other bytes stand at the front.
+// Beside `gap_len`, which differs in one sign: a test as a parameter would be longer than either line.
 fn run_len(s: &[u8], separator: u8) -> usize
     ensures { result ≡ length (take_while (λ b. not (b == separator)) s.now) }
 {
