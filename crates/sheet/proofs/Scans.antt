@@ -103,3 +103,7 @@ parts_next sep p s g n eg en h =
     subst (λ k. parts sep (p + g) (drop g s) ≡ part (take k (drop g s)) (p + g) ∷ parts sep (p + (g + k)) (drop (g + k) s)) (sym en)
     (here ∙ ap (λ l. part (take (run sep (drop g s)) (drop g s)) (p + g) ∷ l) (ap (λ l. parts sep (p + g + run sep (drop g s)) l) (drop-drop _ g s) ∙ ap (λ k. parts sep k (drop (g + run sep (drop g s)) s)) (omega arith))) in
     (rw en (run_pos sep (drop g s) some z), past ∙ joined)
+
+-- no part, where the separators at the front are all
+pub no_part : (sep : ℕ) (s : List ℕ) (g : ℕ) → g ≡ length (take_while (λ c. c == sep) s) → length s ≤ g → (p : ℕ) → parts sep p s ≡ []
+no_part sep s g e h p = parts_none sep p s (omega (arith, gap_is sep s, e))

@@ -1,7 +1,7 @@
 //! Going through the parts of a text.
-ghost use Rattle.std.specs.Prelude.{◌≡◌, ℕ, ◌+◌, ◌≤◌, [], ◌∷◌, ⊤, IfSome, length, MatchOption, not, ◌==◌};
+ghost use Rattle.std.specs.Prelude.{◌≡◌, ℕ, ◌+◌, ◌<◌, ◌≤◌, [], ◌∷◌, IfSome, length, MatchOption, not, ◌==◌};
 ghost use Rattle.std.specs.List.{take_while};
-ghost use Rattle.std.specs.Iterator.{YieldsFirstBy, item_count, MakesProgress};
+ghost use Rattle.std.specs.Iterator.{YieldsFirstBy, item_count};
 ghost use Rattle.sheet.specs.Parts.{Part, parts};
 ghost use Rattle.sheet.specs.Cuts.{part_of, parts_left, end_of, FirstPart};
 
@@ -22,6 +22,35 @@ impl<'a, const SEPARATOR: u8> Parts<'a, SEPARATOR> {
     {
         self.at + self.rest.len()
     }
+
+    /// The next part. Besides what an iterator says of its items, the offset of the end stays.
+    pub fn next_part(&mut self) -> Option<Word<'a>>
+        ensures part { YieldsFirstBy part_of parts_left self.old result self.new }
+        ensures within { IfSome result (λ w. w.at + length w.text.now ≤ end_of self.old) }
+        ensures end { end_of self.new ≡ end_of self.old }
+    {
+        let word = first_part(self.rest, SEPARATOR)?;
+        let at = self.at + word.at;
+        let used = word.at + word.text.len();
+        self.at += used;
+        self.rest = &self.rest[used..];
+        Some(Word {
+            text: word.text,
+            at,
+        })
+    }
+}
+
+impl<'a, const SEPARATOR: u8> Iterator for Parts<'a, SEPARATOR> {
+    type Item = Word<'a>;
+
+    ghost next_gives = { YieldsFirstBy part_of parts_left };
+
+    ghost remaining = { item_count parts_left };
+
+    fn next(&mut self) -> Option<Word<'a>> {
+        self.next_part()
+    }
 }
 
 impl<'a> Lines<'a> {
@@ -30,7 +59,7 @@ impl<'a> Lines<'a> {
         ensures line { MatchOption result ((parts_left self.old ≡ []) × (parts_left self.new ≡ [])) (λ w. (l : Part) × (parts_left self.old ≡ l ∷ parts_left self.new) × (parts_left w ≡ parts 32 l.at l.text) × (end_of w ≡ l.at + length l.text)) }
         ensures end { end_of self.new ≡ end_of self.old }
     {
-        let line = self.next()?;
+        let line = self.next_part()?;
         Some(Parts {
             rest: line.text,
             at: line.at,
@@ -52,7 +81,21 @@ fn run_len(s: &[u8], separator: u8) -> usize
     s.iter().take_while(|b| **b != separator).count()
 }
 
+/// The part that begins at an offset, after separators alone.
+fn part_at<'a>(s: &'a [u8], separator: u8, at: usize) -> Word<'a>
+    requires gap { at ≡ length (take_while (λ b. b == separator) s.now) }
+    requires within { at < length s.now }
+    ensures { FirstPart separator s.now (part_of result) }
+{
+    let end = at + run_len(&s[at..], separator);
+    Word {
+        text: &s[at..end],
+        at,
+    }
+}
+
 /// The first part of `s`, at its offset there.
+#[tactic(auto, using(crate::proofs::Scans::no_part))]
 fn first_part<'a>(s: &'a [u8], separator: u8) -> Option<Word<'a>>
     ensures { MatchOption result ((p : ℕ) → parts separator p s.now ≡ []) (λ w. FirstPart separator s.now (part_of w)) }
 {
@@ -60,35 +103,5 @@ fn first_part<'a>(s: &'a [u8], separator: u8) -> Option<Word<'a>>
     if at >= s.len() {
         return None;
     }
-    let len = run_len(&s[at..], separator);
-    let end = at + len;
-    Some(Word {
-        text: &s[at..end],
-        at,
-    })
-}
-
-impl<'a, const SEPARATOR: u8> Iterator for Parts<'a, SEPARATOR> {
-    type Item = Word<'a>;
-
-    ghost next_gives = { YieldsFirstBy part_of parts_left };
-
-    ghost remaining = { item_count parts_left };
-
-    fn next(&mut self) -> Option<Word<'a>>
-        ensures steps { YieldsFirstBy part_of parts_left self.old result self.new }
-        ensures goes { MakesProgress (λ _. ⊤) (item_count parts_left) self.old result self.new }
-        ensures within { IfSome result (λ w. w.at + length w.text.now ≤ end_of self.old) }
-        ensures end { end_of self.new ≡ end_of self.old }
-    {
-        let word = first_part(self.rest, SEPARATOR)?;
-        let at = self.at + word.at;
-        let used = word.at + word.text.len();
-        self.at += used;
-        self.rest = &self.rest[used..];
-        Some(Word {
-            text: word.text,
-            at,
-        })
-    }
+    Some(part_at(s, separator, at))
 }
