@@ -5,19 +5,18 @@ use Rattle.sheet_reader.specs.Promises.{Accepted}
 use Rattle.sheet_reader.specs.Sheets.{State, start, Reading, reading, and_then, unless, allowed, foreign_byte, lines, by_lines, finished, ask_length, read_sheet}
 use Rattle.sheet_faults.specs.declared.fault.SheetFault.{SheetFault}
 use Rattle.sheet_faults.specs.declared.fault.SheetFault.TheVariants as sheet
-use Rattle.sheet_reader.proofs.Forests.{zero_one}
 use Rattle.sheet_reader.proofs.Lines.{makes_from, from_makes}
 use Rattle.sheet_reader.proofs.Questions.{ok_same, then_ok, unless_ok}
 
 -- question 1
 length_told : (b : Bool) → ◌≡◌ {A = Result (Unit {0}) SheetFault} (cond b (Ok tt) (Err sheet.TooLong)) (Ok tt) → b ≡ true
 length_told true e = refl
-length_told false e = absurd (zero_one (cc))
+length_told false e = cc
 
 -- question 2
 plain_at : (b : Bool) (o : Option SheetFault) (f : SheetFault) → cond b o (Some f) ≡ None → (b ≡ true) × (o ≡ None)
 plain_at true o f e = (refl, e)
-plain_at false o f e = absurd (zero_one (cc))
+plain_at false o f e = cc
 
 plain_from : (p : ℕ) (bs : List ℕ) → foreign_byte p bs ≡ None → (k : ℕ) → k < length bs → allowed (get_or bs k 0) ≡ true
 plain_from p [] e k h = absurd (omega arith)
@@ -30,7 +29,7 @@ from_plain p (b ∷ bs) h = rw (h 0 (omega arith)) (from_plain (suc p) bs (λ k 
 
 -- question 7
 finished_yes : (end : ℕ) (st : State) (o : Option ℕ) (r : Reading) → finished end st o ≡ Ok r → (o ≡ Some r.table.watch) × (r ≡ reading st r.table.watch)
-finished_yes end st None r e = absurd (zero_one (cc))
+finished_yes end st None r e = cc
 finished_yes end st (Some w) r e =
     let is : reading st w ≡ r = ok_same e in
     let same : w ≡ r.table.watch = ap (λ (x : Reading). x.table.watch) is in

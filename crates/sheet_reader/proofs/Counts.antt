@@ -3,7 +3,6 @@ use Rattle.std.proofs.Common.{◌≡◌, ℕ, suc, ◌+◌, ◌≤◌, Bool, tru
 use Rattle.sheet.specs.Parts.{Part, part, run, parts_in}
 use Rattle.sheet.specs.Cuts.{parts_left, end_of}
 use Rattle.sheet.specs.declared.words.Parts.{Parts}
-use Rattle.sheet_reader.proofs.Forests.{zero_one}
 
 -- as many at most as bytes
 few_step : (same inside : Bool) (n : ℕ) (x : Part) (xs ys : List Part) → length xs ≤ n → length ys ≤ n → length (cond same xs (cond inside ys (x ∷ ys))) ≤ suc n
@@ -37,7 +36,7 @@ inside_in sep inside p (b ∷ bs) end e =
     inside_step (b == sep) inside end (part (take (run sep (b ∷ bs)) (b ∷ bs)) p) _ _ (simp length-take (omega arith)) (inside_in sep false (suc p) bs end rest) (inside_in sep true (suc p) bs end rest)
 
 first_inside : (end : ℕ) (ls : List Part) (l : Part) (more : List Part) → ls ≡ l ∷ more → Inside end ls → l.at + length l.text ≤ end
-first_inside end [] l more e i = absurd (zero_one (cc))
+first_inside end [] l more e i = cc
 first_inside end (x ∷ xs) l more e i = let same : x ≡ l = cc in rw (← same) i.0
 
 pub line_inside : {S : ℕ} (w : Parts S) (l : Part) (more : List Part) → parts_left w ≡ l ∷ more → l.at + length l.text ≤ end_of w

@@ -14,9 +14,6 @@ pub record Forest (k : ℕ) (ss : List Symbol) : Type 0 where
   pub count : length ts ≡ k
   pub is : spelts ts ≡ ss
 
-pub zero_one : ◌≡◌ {A = ℕ} 0 1 → ⊥
-zero_one e = omega arith
-
 push1 : (u : Unary) (k : ℕ) (ss : List Symbol) (ts : List Written) → length ts ≡ suc k → spelts ts ≡ ss → Forest (suc k) (takes1 u ∷ ss)
 push1 u k ss [] c e = absurd (omega arith)
 push1 u k ss (t ∷ ts) c e = record { ts = one u t ∷ ts; count = c; is = ap (λ l. takes1 u ∷ l) e }
@@ -28,61 +25,61 @@ push2 b k ss (t ∷ v ∷ ts) c e = record { ts = two b t v ∷ ts; count = omeg
 
 -- a word before the others
 pub push : (k : ℕ) (s : Symbol) (n : ℕ) (ss : List Symbol) → after k s ≡ Some n → Forest n ss → Forest k (s ∷ ss)
-push zero s n ss a f = absurd (zero_one (cc))
+push zero s n ss a f = cc
 push (suc k) (takes0 r) n ss a f = let e : k ≡ n = cc in record { ts = earlier r ∷ f.ts; count = omega (arith, f.count); is = ap (λ l. takes0 r ∷ l) f.is }
 push (suc k) (takes1 u) n ss a f = let e : suc k ≡ n = cc in push1 u k ss f.ts (omega (arith, f.count)) f.is
 push (suc k) (takes2 b) n ss a f = let e : suc (suc k) ≡ n = cc in push2 b k ss f.ts (omega (arith, f.count)) f.is
-push (suc k) never n ss a f = absurd (zero_one (cc))
+push (suc k) never n ss a f = cc
 
 pop0 : (r k : ℕ) (ss : List Symbol) (ts : List Written) → length ts ≡ suc k → spelts ts ≡ takes0 r ∷ ss → Forest k ss
 pop0 r k ss [] c e = absurd (omega arith)
 pop0 r k ss (earlier x ∷ ts) c e = record { ts = ts; count = omega arith; is = cc }
-pop0 r k ss (one u t ∷ ts) c e = absurd (zero_one (cc))
-pop0 r k ss (two b l v ∷ ts) c e = absurd (zero_one (cc))
+pop0 r k ss (one u t ∷ ts) c e = cc
+pop0 r k ss (two b l v ∷ ts) c e = cc
 
 pop1 : (w : Unary) (k : ℕ) (ss : List Symbol) (ts : List Written) → length ts ≡ suc k → spelts ts ≡ takes1 w ∷ ss → Forest (suc k) ss
 pop1 w k ss [] c e = absurd (omega arith)
-pop1 w k ss (earlier x ∷ ts) c e = absurd (zero_one (cc))
+pop1 w k ss (earlier x ∷ ts) c e = cc
 pop1 w k ss (one u t ∷ ts) c e = record { ts = t ∷ ts; count = c; is = cc }
-pop1 w k ss (two b l v ∷ ts) c e = absurd (zero_one (cc))
+pop1 w k ss (two b l v ∷ ts) c e = cc
 
 pop2 : (w : Binary) (k : ℕ) (ss : List Symbol) (ts : List Written) → length ts ≡ suc k → spelts ts ≡ takes2 w ∷ ss → Forest (suc (suc k)) ss
 pop2 w k ss [] c e = absurd (omega arith)
-pop2 w k ss (earlier x ∷ ts) c e = absurd (zero_one (cc))
-pop2 w k ss (one u t ∷ ts) c e = absurd (zero_one (cc))
+pop2 w k ss (earlier x ∷ ts) c e = cc
+pop2 w k ss (one u t ∷ ts) c e = cc
 pop2 w k ss (two b l v ∷ ts) c e = let q : (spelt l ++ spelt v) ++ spelts ts ≡ ss = cc in record { ts = l ∷ v ∷ ts; count = omega arith; is = sym (append_assoc (spelt l) (spelt v) (spelts ts)) ∙ q }
 
 -- the words after the first
 pub pop : (k : ℕ) (s : Symbol) (n : ℕ) (ss : List Symbol) → after k s ≡ Some n → Forest k (s ∷ ss) → Forest n ss
-pop zero s n ss a f = absurd (zero_one (cc))
+pop zero s n ss a f = cc
 pop (suc k) (takes0 r) n ss a f = let e : k ≡ n = cc in subst (λ m. Forest m ss) e (pop0 r k ss f.ts f.count f.is)
 pop (suc k) (takes1 u) n ss a f = let e : suc k ≡ n = cc in subst (λ m. Forest m ss) e (pop1 u k ss f.ts f.count f.is)
 pop (suc k) (takes2 b) n ss a f = let e : suc (suc k) ≡ n = cc in subst (λ m. Forest m ss) e (pop2 b k ss f.ts f.count f.is)
-pop (suc k) never n ss a f = absurd (zero_one (cc))
+pop (suc k) never n ss a f = cc
 
 stop0 : (s : Symbol) (ss : List Symbol) (ts : List Written) → length ts ≡ 0 → spelts ts ≡ s ∷ ss → ⊥
-stop0 s ss [] c e = zero_one (cc)
+stop0 s ss [] c e = cc
 stop0 s ss (t ∷ ts) c e = omega arith
 
 stopN : (ss : List Symbol) (ts : List Written) → spelts ts ≡ never ∷ ss → ⊥
-stopN ss [] e = zero_one (cc)
-stopN ss (earlier x ∷ ts) e = zero_one (cc)
-stopN ss (one u t ∷ ts) e = zero_one (cc)
-stopN ss (two b l v ∷ ts) e = zero_one (cc)
+stopN ss [] e = cc
+stopN ss (earlier x ∷ ts) e = cc
+stopN ss (one u t ∷ ts) e = cc
+stopN ss (two b l v ∷ ts) e = cc
 
 -- a word that cannot be the first
 pub stop : (k : ℕ) (s : Symbol) (ss : List Symbol) → after k s ≡ None → Forest k (s ∷ ss) → ⊥
 stop zero s ss a f = stop0 s ss f.ts f.count f.is
-stop (suc k) (takes0 r) ss a f = zero_one (cc)
-stop (suc k) (takes1 u) ss a f = zero_one (cc)
-stop (suc k) (takes2 b) ss a f = zero_one (cc)
+stop (suc k) (takes0 r) ss a f = cc
+stop (suc k) (takes1 u) ss a f = cc
+stop (suc k) (takes2 b) ss a f = cc
 stop (suc k) never ss a f = stopN ss f.ts f.is
 
 none_at : (k : ℕ) (ts : List Written) → length ts ≡ suc k → spelts ts ≡ [] → ⊥
 none_at k [] c e = omega arith
-none_at k (earlier r ∷ ts) c e = zero_one (cc)
-none_at k (one u t ∷ ts) c e = zero_one (cc)
-none_at k (two b l v ∷ ts) c e = zero_one (cc)
+none_at k (earlier r ∷ ts) c e = cc
+none_at k (one u t ∷ ts) c e = cc
+none_at k (two b l v ∷ ts) c e = cc
 
 -- no word spells no formula
 pub nothing : (k : ℕ) → Forest (suc k) [] → ⊥

@@ -5,7 +5,7 @@ use Rattle.sheet_faults.specs.Faults.{formula_refusal}
 use Rattle.sheet_reader.specs.Grammar.{Written, earlier, one, two, Symbol, spelt, formulas, onto1, onto2, wrong, stopped, or_else, after, bare}
 use Rattle.sheet_reader.specs.Laws.{Unambiguous, Begins, FirstWrong}
 use Rattle.sheet_faults.specs.declared.fault.FormulaFault.{FormulaFault}
-use Rattle.sheet_reader.proofs.Forests.{spelts, Forest, zero_one, push, pop, stop, nothing, single, of_one}
+use Rattle.sheet_reader.proofs.Forests.{spelts, Forest, push, pop, stop, nothing, single, of_one}
 
 some_same : {A : Type 0} {x y : A} → ◌≡◌ {A = Option A} (Some x) (Some y) → x ≡ y
 some_same e = cc
@@ -27,12 +27,12 @@ unambiguous t t' ss ss' e =
 
 -- question 5 is answered yes exactly where so many formulas are spelt
 yes_at : (w : Symbol × ℕ) (ws : List (Symbol × ℕ)) (end k : ℕ) → ((n : ℕ) → wrong ws end n ≡ None → Forest n (bare ws)) → (o : Option ℕ) → after k w.0 ≡ o → or_else o (stopped k w.1) (wrong ws end) ≡ None → Forest k (bare (w ∷ ws))
-yes_at w ws end k ih None a e = absurd (zero_one (cc))
+yes_at w ws end k ih None a e = cc
 yes_at w ws end k ih (Some n) a e = push k w.0 n (bare ws) a (ih n e)
 
 pub yes_spelt : (ws : List (Symbol × ℕ)) (end k : ℕ) → wrong ws end k ≡ None → Forest k (bare ws)
 yes_spelt [] end zero e = record { ts = []; count = refl; is = refl }
-yes_spelt [] end (suc k) e = absurd (zero_one (cc))
+yes_spelt [] end (suc k) e = cc
 yes_spelt (w ∷ ws) end k e = yes_at w ws end k (λ n. yes_spelt ws end n) (after k w.0) refl e
 
 spelt_at : (w : Symbol × ℕ) (ws : List (Symbol × ℕ)) (end k : ℕ) → ((n : ℕ) → Forest n (bare ws) → wrong ws end n ≡ None) → Forest k (bare (w ∷ ws)) → (o : Option ℕ) → after k w.0 ≡ o → or_else o (stopped k w.1) (wrong ws end) ≡ None
@@ -121,7 +121,7 @@ no_at w ws end k f ih (Some n) a e = on w ws end k n (place_of f) a (ih n e)
 
 no_place : (ws : List (Symbol × ℕ)) (end k : ℕ) (f : FormulaFault) → wrong ws end k ≡ Some f → Stops ws k (place_of f) ⊎ Lacks ws end k (place_of f)
 unfolding place_of
-no_place [] end zero f e = absurd (zero_one (cc))
+no_place [] end zero f e = cc
 no_place [] end (suc k) f e = inr (record { place = sym (ap place_of (some_same e)); could = starts (suc k); none = nothing k })
 no_place (w ∷ ws) end k f e = no_at w ws end k f (λ n. no_place ws end n f) (after k w.0) refl e
 

@@ -15,7 +15,6 @@ use Rattle.sheet_reader.specs.Grammar.{Written, earlier, one, two, Symbol, takes
 use Rattle.sheet_reader.specs.Lines.{Operated}
 use Rattle.sheet_reader.specs.Rows.{rows1, rows2, size1, size2, size, top, made}
 use Rattle.sheet_reader.specs.Sound.{Ordered}
-use Rattle.sheet_reader.proofs.Forests.{zero_one}
 use Rattle.sheet_reader.proofs.Prefix.{few1, few2}
 
 -- rows behind rows
@@ -118,13 +117,13 @@ ordered_made width n (two o l r) b =
 -- a formula that words spell names only rows that the words name
 module _ (find : List ℕ → Option ℕ) (n : ℕ) (low : (x : List ℕ) (r : ℕ) → find x ≡ Some r → r < n) where
   named_low : (x : Sort) (r : ℕ) → symbol find x ≡ takes0 r → r < n
-  named_low (operator (One u)) r e = absurd (zero_one (cc))
-  named_low (operator (Two b)) r e = absurd (zero_one (cc))
-  named_low (keyword k) r e = absurd (zero_one (cc))
+  named_low (operator (One u)) r e = cc
+  named_low (operator (Two b)) r e = cc
+  named_low (keyword k) r e = cc
   named_low (name v p) r e = found (find v) refl e
     where
       found : (o : Option ℕ) → find v ≡ o → known o ≡ takes0 r → r < n
-      found None q e = absurd (zero_one (cc))
+      found None q e = cc
       found (Some j) q e = low v r (q ∙ ap Some (cc))
 
   record Rest (t : Written) (ss : List Symbol) : Type 0 where
@@ -133,11 +132,11 @@ module _ (find : List ℕ → Option ℕ) (n : ℕ) (low : (x : List ℕ) (r : �
     are : bare (symbols find words) ≡ ss
 
   spelt_rest : (t : Written) (ws : List Part) (ss : List Symbol) → bare (symbols find ws) ≡ spelt t ++ ss → Rest t ss
-  spelt_rest (earlier r) [] ss e = absurd (zero_one (cc))
+  spelt_rest (earlier r) [] ss e = cc
   spelt_rest (earlier r) (w ∷ ws) ss e = record { below = named_low (token_of w.text w.at) r (cc); words = ws; are = cc }
-  spelt_rest (one u t) [] ss e = absurd (zero_one (cc))
+  spelt_rest (one u t) [] ss e = cc
   spelt_rest (one u t) (w ∷ ws) ss e = let q = spelt_rest t ws ss (cc) in record { below = q.below; words = q.words; are = q.are }
-  spelt_rest (two b l r) [] ss e = absurd (zero_one (cc))
+  spelt_rest (two b l r) [] ss e = cc
   spelt_rest (two b l r) (w ∷ ws) ss e =
       let tail : bare (symbols find ws) ≡ (spelt l ++ spelt r) ++ ss = cc in
       let q = spelt_rest l ws (spelt r ++ ss) (tail ∙ append_assoc (spelt l) (spelt r) ss) in

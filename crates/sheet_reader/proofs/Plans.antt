@@ -29,8 +29,8 @@ kept_all d h = d.kept ∙ omega (arith, h)
 room_cut : (a b : Bool) (p : ℕ) (st : State) → (a ≡ false) ⊎ (b ≡ false) → cond (a && b) (Ok st) (Err (TooMany p)) ≡ Err (TooMany p)
 room_cut false b p st h = refl
 room_cut true false p st h = refl
-room_cut true true p st (inl e) = absurd (let z : ◌≡◌ {A = ℕ} 0 1 = cc in omega arith)
-room_cut true true p st (inr e) = absurd (let z : ◌≡◌ {A = ℕ} 0 1 = cc in omega arith)
+room_cut true true p st (inl e) = cc
+room_cut true true p st (inr e) = cc
 
 pub no_room : (p : ℕ) (st : State) → (32 < st.width) ⊎ (64 < length st.rows) → ask_room p st ≡ Err (TooMany p)
 no_room p st h =

@@ -26,7 +26,6 @@ use Rattle.sheet_reader.specs.Sound.{NamedBelow, Sound}
 use Rattle.sheet_reader.specs.declared.reading.Name.{Name}
 use Rattle.sheet_reader.proofs.Accepted.{accepted_from, from_accepted}
 use Rattle.sheet_reader.proofs.Examples.{worked}
-use Rattle.sheet_reader.proofs.Forests.{zero_one}
 use Rattle.sheet_reader.proofs.Grammar.{unambiguous}
 use Rattle.sheet_reader.proofs.Lines.{from_makes}
 use Rattle.sheet_reader.proofs.Meant.{formula_meant, signal_meant}
@@ -75,7 +74,7 @@ grown_line s a b key.Watch ws n l = record {
   rows_are = ap (λ (x : State). x.rows) l.makes;
   more_names = [];
   names_are = ap (λ (x : State). x.names) l.makes ∙ sym (append-nil a.names);
-  watch_is = λ w e. absurd (zero_one (cc));
+  watch_is = λ w e. cc;
 }
 
 grown_adds : (s : List ℕ) (a b : State) (ws : List Part) → Adds s a ws b → Grown a b
@@ -100,7 +99,7 @@ found_here : (b : Bool) (r : ℕ) (o : Option ℕ) → b ≡ true → cond b (So
 found_here b r o e = rw e
 
 passed_at : (b : Bool) (r : ℕ) (o : Option ℕ) → cond b (Some r) o ≡ None → (b ≡ false) × (o ≡ None)
-passed_at true r o e = absurd (zero_one (cc))
+passed_at true r o e = cc
 passed_at false r o e = (refl, e)
 
 found_behind : (s : List ℕ) (ns : List Name) (x : Name) (ys : List Name) (t : List ℕ) → row_named s ns t ≡ None → bytes_eq (text_of s x) t ≡ true → row_named s (ns ++ x ∷ ys) t ≡ Some x.row

@@ -1,6 +1,6 @@
 -- Each question answered yes, in the words of the language.
 use Rattle.std.proofs.Common.{◌≡◌, ℕ, Bool, true, false, cond, ◌&&◌, leb, List, [], ◌∷◌, length, is_some, Some, None, Ok, Err, Option, Result, sym, refl, ap, ◌∙◌}
-use Rattle.std.proofs.lemmas.Bool.{true≢false, and_parts, and_from, leb-true, le-leb}
+use Rattle.std.proofs.lemmas.Bool.{and_parts, and_from, leb-true, le-leb}
 use Rattle.sheet.specs.Parts.{Part}
 use Rattle.sheet.specs.Tokens.{Sort, operator, keyword, name, token_of, reserved}
 use Rattle.sheet.specs.declared.token.Operator.TheVariants.{One, Two}
@@ -14,7 +14,7 @@ use Rattle.sheet_faults.specs.declared.fault.FormulaFault.{FormulaFault}
 use Rattle.sheet_faults.specs.declared.fault.NameFault.{NameFault}
 use Rattle.sheet_faults.specs.declared.fault.SheetFault.{SheetFault}
 use Rattle.sheet_reader.specs.declared.reading.Name.{Name}
-use Rattle.sheet_reader.proofs.Forests.{zero_one, single, of_one}
+use Rattle.sheet_reader.proofs.Forests.{single, of_one}
 use Rattle.sheet_reader.proofs.Grammar.{formulas_one, yes_spelt, spelt_yes}
 use Rattle.sheet_reader.proofs.Wholes.{asked_yes}
 
@@ -24,37 +24,37 @@ ok_same e = cc
 -- one question after another
 pub then_ok : {A B E : Type 0} (r : Result A E) (go_on : A → Result B E) (b : B) → and_then r go_on ≡ Ok b → (a : A) × (r ≡ Ok a) × (go_on a ≡ Ok b)
 then_ok (Ok a) go_on b e = (a, refl, e)
-then_ok (Err x) go_on b e = absurd (zero_one (cc))
+then_ok (Err x) go_on b e = cc
 
 pub unless_ok : {E : Type 0} (o : Option E) → unless o ≡ Ok tt → o ≡ None
 unless_ok None e = refl
-unless_ok (Some x) e = absurd (zero_one (cc))
+unless_ok (Some x) e = cc
 
 pub name_ok : {A : Type 0} (r : Result A NameFault) (a : A) → in_name r ≡ Ok a → r ≡ Ok a
 name_ok (Ok x) a e = cc
-name_ok (Err x) a e = absurd (zero_one (cc))
+name_ok (Err x) a e = cc
 
 pub formula_ok : {A : Type 0} (r : Result A FormulaFault) (a : A) → in_formula r ≡ Ok a → r ≡ Ok a
 formula_ok (Ok x) a e = cc
-formula_ok (Err x) a e = absurd (zero_one (cc))
+formula_ok (Err x) a e = cc
 
 -- question 3
 pub keyword_yes : (watch : Option ℕ) (p : ℕ) (x : Sort) (k : Keyword) → ask_keyword watch p x ≡ Ok k → (x ≡ keyword k) × (watch ≡ None)
-keyword_yes watch p (operator o) k e = absurd (zero_one (cc))
+keyword_yes watch p (operator o) k e = cc
 keyword_yes None p (keyword j) k e = (cc, refl)
-keyword_yes (Some r) p (keyword j) k e = absurd (zero_one (cc))
-keyword_yes watch p (name t q) k e = absurd (zero_one (cc))
+keyword_yes (Some r) p (keyword j) k e = cc
+keyword_yes watch p (name t q) k e = cc
 
 -- question 4
 chosen : {X : Type 0} (a b c : Bool) (x y z : X) → cond a (Some x) (cond b (Some y) (cond c None (Some z))) ≡ None → (a ≡ false) × (b ≡ false) × (c ≡ true)
-chosen true b c x y z e = absurd (zero_one (cc))
-chosen false true c x y z e = absurd (zero_one (cc))
+chosen true b c x y z e = cc
+chosen false true c x y z e = cc
 chosen false false true x y z e = (refl, refl, refl)
-chosen false false false x y z e = absurd (zero_one (cc))
+chosen false false false x y z e = cc
 
 no_some : {X : Type 0} (o : Option X) → is_some o ≡ false → o ≡ None
 no_some None e = refl
-no_some (Some x) e = absurd (true≢false e)
+no_some (Some x) e = cc
 
 module _ (sheet : List ℕ) (names : List Name) where
   pub fresh_from : (w : Part) → name_fault sheet names w ≡ None → Fresh sheet names w.text
@@ -66,7 +66,7 @@ module _ (sheet : List ℕ) (names : List Name) where
   from_fresh w f = let l = le-leb (length w.text) 16 f.short in rw (f.unreserved, f.undeclared, l)
 
   pub name_yes : (ws : List Part) (end : ℕ) (n : Part × List Part) → ask_name sheet names ws end ≡ Ok n → (ws ≡ n.0 ∷ n.1) × Fresh sheet names n.0.text
-  name_yes [] end n e = absurd (zero_one (cc))
+  name_yes [] end n e = cc
   name_yes (w ∷ ws) end n e =
       let t = then_ok (unless (name_fault sheet names w)) (λ _. Ok (w, ws)) n e in
       let is : (w, ws) ≡ n = ok_same t.2 in
@@ -94,45 +94,45 @@ module _ (sheet : List ℕ) (names : List Name) where
 
 pub nothing_yes : (ws : List Part) → ask_nothing ws ≡ Ok tt → ws ≡ []
 nothing_yes [] e = refl
-nothing_yes (w ∷ ws) e = absurd (zero_one (cc))
+nothing_yes (w ∷ ws) e = cc
 
 -- a formula whose first word is an operator, and no other, has an operator
 operated_at : (find : List ℕ → Option ℕ) (x : Sort) (ss : List Symbol) (t : Written) → is_operator x ≡ true → symbol find x ∷ ss ≡ spelt t → Operated t
-operated_at find (operator (One u)) ss (earlier r) h e = absurd (zero_one (cc))
-operated_at find (operator (Two b)) ss (earlier r) h e = absurd (zero_one (cc))
+operated_at find (operator (One u)) ss (earlier r) h e = cc
+operated_at find (operator (Two b)) ss (earlier r) h e = cc
 operated_at find (operator o) ss (one u t) h e = tt
 operated_at find (operator o) ss (two b l r) h e = tt
-operated_at find (keyword k) ss t h e = absurd (true≢false (sym h))
-operated_at find (name v p) ss t h e = absurd (true≢false (sym h))
+operated_at find (keyword k) ss t h e = cc
+operated_at find (name v p) ss t h e = cc
 
 operator_at : (find : List ℕ → Option ℕ) (x : Sort) (ss : List Symbol) (t : Written) → Operated t → symbol find x ∷ ss ≡ spelt t → is_operator x ≡ true
 operator_at find (operator o) ss t h e = refl
 operator_at find (keyword k) ss (earlier r) h e = absurd h
-operator_at find (keyword k) ss (one u t) h e = absurd (zero_one (cc))
-operator_at find (keyword k) ss (two b l r) h e = absurd (zero_one (cc))
+operator_at find (keyword k) ss (one u t) h e = cc
+operator_at find (keyword k) ss (two b l r) h e = cc
 operator_at find (name v p) ss t h e = no_name (find v) t h e
   where
     no_name : (o : Option ℕ) (t : Written) → Operated t → known o ∷ ss ≡ spelt t → is_operator (name v p) ≡ true
     no_name o (earlier r) h e = absurd h
-    no_name None (one u t) h e = absurd (zero_one (cc))
-    no_name (Some r) (one u t) h e = absurd (zero_one (cc))
-    no_name None (two b l r) h e = absurd (zero_one (cc))
-    no_name (Some j) (two b l r) h e = absurd (zero_one (cc))
+    no_name None (one u t) h e = cc
+    no_name (Some r) (one u t) h e = cc
+    no_name None (two b l r) h e = cc
+    no_name (Some j) (two b l r) h e = cc
 
 operator_told : (b : Bool) (f : FormulaFault) → ◌≡◌ {A = Result (Unit {0}) FormulaFault} (cond b (Ok tt) (Err f)) (Ok tt) → b ≡ true
 operator_told true f e = refl
-operator_told false f e = absurd (zero_one (cc))
+operator_told false f e = cc
 
 module _ (sheet : List ℕ) (names : List Name) where
   pub operator_yes : (ws : List Part) (end : ℕ) (t : Written) → ask_operator ws end ≡ Ok tt → Spell (symbols_of sheet names ws) t → Operated t
-  operator_yes [] end t e s = absurd (zero_one (cc))
+  operator_yes [] end t e s = cc
   operator_yes (w ∷ ws) end t e s =
       operated_at (row_named sheet names) (token_of w.text w.at) (bare (symbols_of sheet names ws)) t (operator_told (is_operator (token_of w.text w.at)) _ e) s
 
   pub yes_operator : (ws : List Part) (end : ℕ) (t : Written) → Operated t → Spell (symbols_of sheet names ws) t → ask_operator ws end ≡ Ok tt
   yes_operator [] end (earlier r) h s = absurd h
-  yes_operator [] end (one u t) h s = absurd (zero_one (cc))
-  yes_operator [] end (two b l r) h s = absurd (zero_one (cc))
+  yes_operator [] end (one u t) h s = cc
+  yes_operator [] end (two b l r) h s = cc
   yes_operator (w ∷ ws) end t h s =
       let y = operator_at (row_named sheet names) (token_of w.text w.at) (bare (symbols_of sheet names ws)) t h s in
       rw y
@@ -140,7 +140,7 @@ module _ (sheet : List ℕ) (names : List Name) where
 -- question 6
 room_told : (b : Bool) (p : ℕ) (st st' : State) (f : SheetFault) → ◌≡◌ {A = Result State SheetFault} (cond b (Ok st) (Err f)) (Ok st') → (b ≡ true) × (st' ≡ st)
 room_told true p st st' f e = (refl, sym (ok_same e))
-room_told false p st st' f e = absurd (zero_one (cc))
+room_told false p st st' f e = cc
 
 pub room_yes : (p : ℕ) (st st' : State) → ask_room p st ≡ Ok st' → (st' ≡ st) × Room st'
 room_yes p st st' e =

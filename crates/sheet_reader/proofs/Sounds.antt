@@ -17,7 +17,6 @@ use Rattle.sheet_reader.specs.Rows.{size, top, made}
 use Rattle.sheet_reader.specs.Sheets.{State, start, words, symbols_of, with_signal, with_named, with_watch, by_keyword}
 use Rattle.sheet_reader.specs.Sound.{Ordered, NamedBelow, Sound}
 use Rattle.sheet_reader.specs.declared.reading.Name.{Name}
-use Rattle.sheet_reader.proofs.Forests.{zero_one}
 use Rattle.sheet_reader.proofs.Lines.{by_yes}
 use Rattle.sheet_reader.proofs.Prefix.{few1, few2}
 use Rattle.sheet_reader.proofs.Ordered.{ordered_append, ordered_wider, ordered_made, all_fit, Below, length_made, top_below, spelt_below}
@@ -28,7 +27,7 @@ found_at n x r o h ih true e = let z : x ≡ r = cc in omega arith
 found_at n x r o h ih false e = ih e
 
 pub known_from : (sheet : List ℕ) (names : List Name) (n : ℕ) → NamedBelow n names → Known sheet names n
-known_from sheet [] n b t r e = absurd (zero_one (cc))
+known_from sheet [] n b t r e = cc
 known_from sheet (x ∷ xs) n b t r e = found_at n x.row r (row_named sheet xs t) b.0 (known_from sheet xs n b.1 t r) (bytes_eq (text_of sheet x) t) e
 
 named_stays : (names : List Name) (n m : ℕ) → n ≤ m → NamedBelow n names → NamedBelow m names
@@ -140,7 +139,7 @@ sound_start = record {
   ordered = tt;
   named = tt;
   some_signal = λ h. absurd (omega arith);
-  watched = λ w e. absurd (zero_one (cc));
+  watched = λ w e. cc;
 }
 
 -- with a watch row it is a formula's table

@@ -8,7 +8,6 @@ use Rattle.sheet_reader.specs.Sheets.{and_then, unless, ask_nothing, ask_formula
 use Rattle.sheet_faults.specs.declared.fault.FormulaFault.{FormulaFault}
 use Rattle.sheet_faults.specs.declared.fault.FormulaFault.TheVariants.{Surplus}
 use Rattle.sheet_reader.specs.declared.reading.Name.{Name}
-use Rattle.sheet_reader.proofs.Forests.{zero_one}
 use Rattle.sheet_reader.proofs.Grammar.{formulas_spelt}
 
 module _ (sheet : List ℕ) (names : List Name) (ws : List Part) (end : ℕ) where
@@ -25,9 +24,9 @@ module _ (sheet : List ℕ) (names : List Name) (ws : List Part) (end : ℕ) whe
     asked = asked_yes g.formula (g.passes 0) (ap formulas g.spells ∙ formulas_spelt g.formula []);
     added = g.added;
   }
-  whole (x ∷ xs) g e = absurd (zero_one (cc))
+  whole (x ∷ xs) g e = cc
 
   -- a word behind the formula
   pub surplus : (xs : List Part) {n n' row : ℕ} {k k' : List Row} (f : FormulaFault) → Got (symbols_of sheet names ws) (symbols_of sheet names xs) end n k n' k' row → Err f ≡ ask_nothing xs → ask_formula sheet names ws end ≡ Err f
-  surplus [] f g e = absurd (zero_one (cc))
+  surplus [] f g e = cc
   surplus (x ∷ xs) f g e = let is : Surplus x.at ≡ f = cc in asked_no f (g.passes 0 ∙ ap Some is)

@@ -17,7 +17,6 @@ use Rattle.sheet_faults.specs.declared.fault.WordFault.TheVariants as word
 use Rattle.sheet_faults.specs.declared.fault.SheetFault.{SheetFault}
 use Rattle.sheet_faults.specs.declared.fault.SheetFault.TheVariants as sheet
 use Rattle.sheet_reader.specs.declared.reading.Name.{Name}
-use Rattle.sheet_reader.proofs.Forests.{zero_one}
 use Rattle.sheet_reader.proofs.Grammar.{first_wrong}
 use Rattle.sheet_reader.proofs.Lines.{adds_from}
 use Rattle.sheet_reader.proofs.Questions.{keyword_yes, name_yes, name_ok}
@@ -32,23 +31,23 @@ then_err (Ok a) go_on e q = later a refl q
 then_err (Err x) go_on e q = at_first (cc)
 
 formula_err : {A : Type 0} (r : Result A FormulaFault) (f : FormulaFault) → in_formula r ≡ Err (sheet.Formula f) → r ≡ Err f
-formula_err (Ok a) f e = absurd (zero_one (cc))
+formula_err (Ok a) f e = cc
 formula_err (Err x) f e = cc
 
 -- these questions have other faults
 no_name_fault : {A : Type 0} (r : Result A NameFault) (f : FormulaFault) → in_name r ≡ Err (sheet.Formula f) → ⊥
-no_name_fault (Ok a) f e = zero_one (cc)
-no_name_fault (Err x) f e = zero_one (cc)
+no_name_fault (Ok a) f e = cc
+no_name_fault (Err x) f e = cc
 
 no_keyword_fault : (watch : Option ℕ) (p : ℕ) (x : Sort) (f : FormulaFault) → ask_keyword watch p x ≡ Err (sheet.Formula f) → ⊥
-no_keyword_fault watch p (operator o) f e = zero_one (cc)
-no_keyword_fault None p (keyword k) f e = zero_one (cc)
-no_keyword_fault (Some r) p (keyword k) f e = zero_one (cc)
-no_keyword_fault watch p (name t q) f e = zero_one (cc)
+no_keyword_fault watch p (operator o) f e = cc
+no_keyword_fault None p (keyword k) f e = cc
+no_keyword_fault (Some r) p (keyword k) f e = cc
+no_keyword_fault watch p (name t q) f e = cc
 
 no_room_at : (b : Bool) (p : ℕ) (st : State) (f : FormulaFault) → ◌≡◌ {A = Result State SheetFault} (cond b (Ok st) (Err (sheet.TooMany p))) (Err (sheet.Formula f)) → ⊥
-no_room_at true p st f e = zero_one (cc)
-no_room_at false p st f e = zero_one (cc)
+no_room_at true p st f e = cc
+no_room_at false p st f e = cc
 
 no_room_fault : (p : ℕ) (st : State) (f : FormulaFault) → ask_room p st ≡ Err (sheet.Formula f) → ⊥
 no_room_fault p st f e = no_room_at (leb st.width 32 && leb (length st.rows) 64) p st f e
@@ -58,11 +57,11 @@ formula_no : (s : List ℕ) (names : List Name) (ws : List Part) (end : ℕ) (f 
 formula_no s names ws end f e = first_wrong (symbols_of s names ws) end f (told (wrong (symbols_of s names ws) end 1) e)
   where
     told : (o : Option FormulaFault) → and_then (unless o) (λ _. Ok (first (formulas (bare (symbols_of s names ws))))) ≡ Err f → o ≡ Some f
-    told None q = absurd (zero_one (cc))
+    told None q = cc
     told (Some x) q = cc
 
 operator_at : (w : Part) (ws : List Part) (b : Bool) (f : FormulaFault) → is_operator (token_of w.text w.at) ≡ b → ◌≡◌ {A = Result (Unit {0}) FormulaFault} (cond b (Ok tt) (Err (formula.NoOperator w.at))) (Err f) → NoOperatorAt (w ∷ ws) (formula_refusal f).place
-operator_at w ws true f q e = absurd (zero_one (cc))
+operator_at w ws true f q e = cc
 operator_at w ws false f q e =
     let is : formula.NoOperator w.at ≡ f = cc in
     record { first = w; behind = ws; is = refl; no_operator = q; place = ap (λ x. (formula_refusal x).place) (sym is) }
@@ -72,7 +71,7 @@ operator_no s names [] end f e = inr (first_wrong [] end f (let is : formula.Wor
 operator_no s names (w ∷ ws) end f e = inl (operator_at w ws (is_operator (token_of w.text w.at)) f refl e)
 
 nothing_no : (w : Part) (ws : List Part) (f : FormulaFault) → ask_nothing ws ≡ Err f → SurplusAt (w ∷ ws) (formula_refusal f).place
-nothing_no w [] f e = absurd (zero_one (cc))
+nothing_no w [] f e = cc
 nothing_no w (x ∷ xs) f e =
     let is : formula.Surplus x.at ≡ f = cc in
     record { name = w; surplus = x; behind = xs; is = refl; place = ap (λ y. (formula_refusal y).place) (sym is) }
@@ -141,11 +140,11 @@ stopped_at s st l ls f ih (later mid q r) =
     }
 
 stopped : (s : List ℕ) (st : State) (ls : List Part) (f : FormulaFault) → by_lines s st ls ≡ Err (sheet.Formula f) → Stopped s st ls f
-stopped s st [] f e = absurd (zero_one (cc))
+stopped s st [] f e = cc
 stopped s st (l ∷ ls) f e = stopped_at s st l ls f (λ mid. stopped s mid ls f) (then_err (by_words s st (words l) (end_of l)) (λ mid. by_lines s mid ls) (sheet.Formula f) e)
 
 line_no : (s : List ℕ) (st : State) (l : Part) (f : FormulaFault) → LineAt s st l → (ws : List Part) → words l ≡ ws → by_words s st ws (end_of l) ≡ Err (sheet.Formula f) → WrongLine s (formula_refusal f).place
-line_no s st l f at [] is e = absurd (zero_one (cc))
+line_no s st l f at [] is e = cc
 line_no s st l f at (w ∷ ws) is e = by_first (then_err (ask_keyword st.watch w.at (token_of w.text w.at)) (λ k. by_keyword s st w.at k ws (end_of l)) (sheet.Formula f) e)
   where
     by_first : Refused (ask_keyword st.watch w.at (token_of w.text w.at)) (λ k. by_keyword s st w.at k ws (end_of l)) (sheet.Formula f) → WrongLine s (formula_refusal f).place
@@ -164,24 +163,24 @@ lines_no s f e =
     line_no s m.state m.line f (record { before = m.before; behind = m.behind; splits = m.splits; made = m.made }) (words m.line) refl m.refused
 
 no_length : (b : Bool) (f : FormulaFault) → ◌≡◌ {A = Result (Unit {0}) SheetFault} (cond b (Ok tt) (Err sheet.TooLong)) (Err (sheet.Formula f)) → ⊥
-no_length true f e = zero_one (cc)
-no_length false f e = zero_one (cc)
+no_length true f e = cc
+no_length false f e = cc
 
 no_foreign_at : (b : Bool) (o : Option SheetFault) (p : ℕ) (f : FormulaFault) → (o ≡ Some (sheet.Formula f) → ⊥) → cond b o (Some (sheet.ForeignByte p)) ≡ Some (sheet.Formula f) → ⊥
 no_foreign_at true o p f ih e = ih e
-no_foreign_at false o p f ih e = zero_one (cc)
+no_foreign_at false o p f ih e = cc
 
 no_foreign : (p : ℕ) (bs : List ℕ) (f : FormulaFault) → foreign_byte p bs ≡ Some (sheet.Formula f) → ⊥
-no_foreign p [] f e = zero_one (cc)
+no_foreign p [] f e = cc
 no_foreign p (b ∷ bs) f e = no_foreign_at (allowed b) (foreign_byte (suc p) bs) p f (no_foreign (suc p) bs f) e
 
 unless_err : (o : Option SheetFault) (f : SheetFault) → unless o ≡ Err f → o ≡ Some f
-unless_err None f e = absurd (zero_one (cc))
+unless_err None f e = cc
 unless_err (Some x) f e = cc
 
 no_finish : (end : ℕ) (st : State) (o : Option ℕ) (f : FormulaFault) → finished end st o ≡ Err (sheet.Formula f) → ⊥
-no_finish end st None f e = zero_one (cc)
-no_finish end st (Some w) f e = zero_one (cc)
+no_finish end st None f e = cc
+no_finish end st (Some w) f e = cc
 
 pub wrong_word : (s : List ℕ) (f : FormulaFault) → read_sheet s ≡ Err (sheet.Formula f) → WrongLine s (formula_refusal f).place
 wrong_word s f e = at_length (then_err (ask_length s) (λ _. bytes_then) (sheet.Formula f) e)
