@@ -39,6 +39,7 @@ impl RecordFault {
 
 impl OpenFault {
     /// The question answered no, and its place.
+    // Beside other faults of one question each, in other crates: what they share is this value, and it is written in its parts.
     pub fn refusal(self) -> Refusal
         ensures { result ≡ open_refusal self }
     {

@@ -120,6 +120,7 @@ impl<'a> Recorder for PlainRecorder<'a> {
         if n >= self.capacity() {
             return Err(RecordFault::NoRoom);
         }
+        // `as`, of which it is proved that no bit is lost: `try_from` would add a case that cannot be.
         self.words[n] = step.bits() as u32;
         self.held = n + 1;
         Ok(n + 1)

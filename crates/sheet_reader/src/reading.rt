@@ -71,6 +71,7 @@ pub struct Sheet {
 }
 
 /// A row's label: its name, which is a part of the sheet and stands at `at`, or the spare text.
+// No `Result` or `Option`: the spare text is no error, and either case has its text.
 #[derive(Clone, Copy, Debug)]
 pub enum Label<'a> {
     Sheet { text: &'a [u8], at: usize },

@@ -52,6 +52,8 @@ impl<'a, T: Copy> Grid<'a, T> {
     }
 
     /// Where the cell of row r at position i stands.
+    // `HasCell` is asked for, here and below, and no invariant: `has` is its test. Row and position stay two parameters: a struct of
+    // them would be made anew at each call.
     #[tactic(auto, using(crate::proofs::Places::inside))]
     fn spot(&self, r: usize, i: usize) -> usize
         requires { HasCell self.now r i }

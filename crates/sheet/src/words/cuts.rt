@@ -69,6 +69,7 @@ impl<'a> Lines<'a> {
 }
 
 /// How many separators stand at the front.
+// `s` and `separator` stay parameters of these four functions: a struct of them would be `Parts`, which is made of what they tell.
 fn gap_len(s: &[u8], separator: u8) -> usize
     ensures { result ≡ length (take_while (λ b. b == separator) s.now) }
 {

@@ -56,18 +56,18 @@ impl<'f, 'r, R: Recording> Evaluation<'f, 'r, R> {
     {
         match self.formula.rows()[r] {
             Row::Signal(k) => self.signal(step, k, i),
-            Row::Not(a) => grid.at(a as usize, i).turn(),
-            Row::Or(a, b) => grid.at(a as usize, i).join(grid.at(b as usize, i)),
+            Row::Not(a) => grid.at(usize::from(a), i).turn(),
+            Row::Or(a, b) => grid.at(usize::from(a), i).join(grid.at(usize::from(b), i)),
             Row::Next(a) => {
                 let j = if i <= self.recording.len() { i + 1 } else { i };
-                grid.at(a as usize, j).later()
+                grid.at(usize::from(a), j).later()
             }
             Row::Until(a, b) => {
-                let x = grid.at(a as usize, i);
-                let y = grid.at(b as usize, i);
+                let x = grid.at(usize::from(a), i);
+                let y = grid.at(usize::from(b), i);
                 y.join(x.meet(self.ahead(grid, r, i)))
             }
-            Row::Eventually(a) => grid.at(a as usize, i).join(self.ahead(grid, r, i)),
+            Row::Eventually(a) => grid.at(usize::from(a), i).join(self.ahead(grid, r, i)),
         }
     }
 
@@ -80,6 +80,7 @@ impl<'f, 'r, R: Recording> Evaluation<'f, 'r, R> {
         ensures frame { Frame grid.old grid.new }
     {
         let step = self.recording.step(i);
+        // A range, since `r` is the row's coordinate in the grid.
         for r in 0..self.formula.row_count() {
             let v = self.cell(grid, step, r, i);
             grid.put(r, i, v);
@@ -101,6 +102,7 @@ impl<'f, 'r, R: Recording> Evaluation<'f, 'r, R> {
 
 /// Fills the cells with the value of every row at every position from 1 to n + 1, whatever they held.
 /// Cells past these stay, and a grid that is too small is left as it is.
+// Formula and recording stay two parameters: callers have them apart, and would make a struct of them for this call alone.
 pub fn evaluate<S: Scale, R: Recording>(
     formula: &Formula,
     recording: &R,

@@ -211,6 +211,7 @@ impl Plan {
             words,
             first: word.at,
         };
+        // A match and no table of functions: it names each kind of line once.
         match keyword {
             Keyword::Signal => self.with_signal(line),
             Keyword::Name => self.with_name(line),
