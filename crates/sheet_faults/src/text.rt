@@ -11,12 +11,10 @@ impl fmt::Display for WordFault {
     ghost output = { λ e. Some (shown_word e) };
 
     fn fmt<W: fmt::Write>(&self, f: &mut fmt::Formatter<W>) -> fmt::Result {
-        match *self {
-            WordFault::Unknown { at: _ } => {
-                f.write_str("the word is neither an operator nor an earlier name")
-            }
-            WordFault::Missing { at: _ } => f.write_str("the line ends where a word is wanted"),
-        }
+        f.write_str(match self {
+            WordFault::Unknown { .. } => "the word is neither an operator nor an earlier name",
+            WordFault::Missing { .. } => "the line ends where a word is wanted",
+        })
     }
 }
 
@@ -26,10 +24,10 @@ impl fmt::Display for FormulaFault {
     fn fmt<W: fmt::Write>(&self, f: &mut fmt::Formatter<W>) -> fmt::Result {
         match *self {
             FormulaFault::Word(fault) => write!(f, "{fault}"),
-            FormulaFault::NoOperator { at: _ } => {
+            FormulaFault::NoOperator { .. } => {
                 f.write_str("the formula of a name line begins with an operator")
             }
-            FormulaFault::Surplus { at: _ } => f.write_str("the line is complete before this word"),
+            FormulaFault::Surplus { .. } => f.write_str("the line is complete before this word"),
         }
     }
 }
@@ -38,12 +36,12 @@ impl fmt::Display for NameFault {
     ghost output = { λ e. Some (shown_name e) };
 
     fn fmt<W: fmt::Write>(&self, f: &mut fmt::Formatter<W>) -> fmt::Result {
-        match *self {
-            NameFault::Missing { at: _ } => f.write_str("the line ends where a name is wanted"),
-            NameFault::Reserved { at: _ } => f.write_str("the word is reserved"),
-            NameFault::Taken { at: _ } => f.write_str("an earlier line declares this name"),
-            NameFault::TooLong { at: _ } => f.write_str("the name has more than 16 bytes"),
-        }
+        f.write_str(match self {
+            NameFault::Missing { .. } => "the line ends where a name is wanted",
+            NameFault::Reserved { .. } => "the word is reserved",
+            NameFault::Taken { .. } => "an earlier line declares this name",
+            NameFault::TooLong { .. } => "the name has more than 16 bytes",
+        })
     }
 }
 
@@ -53,15 +51,15 @@ impl fmt::Display for SheetFault {
     fn fmt<W: fmt::Write>(&self, f: &mut fmt::Formatter<W>) -> fmt::Result {
         match *self {
             SheetFault::TooLong => f.write_str("the sheet goes on after 4,096 bytes"),
-            SheetFault::ForeignByte { at: _ } => f.write_str("no sheet holds this byte"),
-            SheetFault::NoKeyword { at: _ } => f.write_str("the word is no keyword"),
-            SheetFault::AfterWatch { at: _ } => f.write_str("the watch line is the last"),
+            SheetFault::ForeignByte { .. } => f.write_str("no sheet holds this byte"),
+            SheetFault::NoKeyword { .. } => f.write_str("the word is no keyword"),
+            SheetFault::AfterWatch { .. } => f.write_str("the watch line is the last"),
             SheetFault::Name(fault) => write!(f, "{fault}"),
             SheetFault::Formula(fault) => write!(f, "{fault}"),
-            SheetFault::TooMany { at: _ } => {
+            SheetFault::TooMany { .. } => {
                 f.write_str("with this line there are more than 32 signals or 64 rows")
             }
-            SheetFault::NoWatch { at: _ } => f.write_str("the sheet ends without a watch line"),
+            SheetFault::NoWatch { .. } => f.write_str("the sheet ends without a watch line"),
         }
     }
 }
