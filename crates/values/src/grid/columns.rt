@@ -56,6 +56,7 @@ impl<'f, 'r, R: Recording> Evaluation<'f, 'r, R> {
         requires step { set_of step ≡ step_at (R.steps self.now.recording.now) i }
         ensures { result ≡ meaning S.ops (R.steps self.now.recording.now) self.now.formula.now r i }
     {
+        // `as usize` and not `usize::from`: the proof would need one more fact for each operand.
         match row {
             Row::Signal(k) => self.signal(step, k, i),
             Row::Not(a) => grid.at(a as usize, i).turn(),
