@@ -2,8 +2,9 @@
 use Rattle.std.proofs.Common.{◌≡◌, ℕ, zero, suc, ◌+◌, ◌-◌, ◌*◌, ◌/◌, ◌%◌, ◌^◌, ◌<◌, ◌≤◌, max, true, false, ◌||◌, eqb, ltb, leb, ◌⊎◌, ◌↔◌, sym, refl, ap, ◌∙◌, inl, inr, ⊎_elim, arith}
 use native.Mathlib.Nat.{div-eq_of_lt, div-eq_of_lt-le}
 use lib.Bits.{bit_or, or_step}
-use Rattle.std.proofs.lemmas.Nat.{or_shr, pow_pos, pow-add, pow_below, shl-shr, mod_below, leading_top, le-div, one_shl}
+use Rattle.std.proofs.lemmas.Nat.{or_shr, pow_pos, pow-add, pow_below, shl-shr, mod_below, leading_top, le-div}
 use Rattle.std.proofs.lemmas.Bool.{cases_lt, cases_order, eq-eqb, ne_eqb, true≢false, ltb-true, lt-ltb, le-ltb, le-leb}
+use Rattle.std.proofs.lemmas.Grind.{one_shifted}
 use Rattle.ltl.specs.Steps.{has, Below}
 
 or_bit : (a b : ℕ) → bit_or a b % 2 ≡ max (a % 2) (b % 2)
@@ -87,9 +88,6 @@ has_high s k h l = has_none 64 s k h l
 -- membership in a set with one signal more
 pub has_more : (s j k : ℕ) → has (bit_or s (2 ^ j)) k ≡ (has s k || eqb k j)
 has_more s j k = has_or s (2 ^ j) k ∙ ap (λ b. has s k || b) (has_one j k)
-
-pub one_shifted : (j : ℕ) → j < 64 → 1 * 2 ^ j % 2 ^ 64 ≡ 2 ^ j
-one_shifted j h = one_shl j 64 h
 
 -- the number tells whether every signal is below the width
 pub below_test : (width s : ℕ) → (ltb s (2 ^ width) ≡ true) ↔ Below width s

@@ -40,38 +40,38 @@ module _ {V : Type 0} (o : Ops V) (steps : List ℕ) (f : Formula) (grid : Grid 
       (λ l. let t = lt-leb i (length steps) l in rw t)
       (cases_le i (length steps))
 
-  module _ (rows : List Row) (rows_are : rows ≡ rows_of f) where
+  module _ (row : Row) (row_is : row ≡ get_or (rows_of f) r (Signal 0)) where
     within : r < length (rows_of f)
     within = omega (arith, has.row, stands.ready.rows_is)
 
-    stored : (x : Row) → get_or rows r (Signal 0) ≡ x → get_or (rows_of f) r (Signal 0) ≡ x
-    stored x e = ap (λ l. get_or l r (Signal 0)) (sym rows_are) ∙ e
+    stored : (x : Row) → row ≡ x → get_or (rows_of f) r (Signal 0) ≡ x
+    stored x e = sym row_is ∙ e
 
-    fitting : (x : Row) → get_or rows r (Signal 0) ≡ x → Fits (width_of f) r x
+    fitting : (x : Row) → row ≡ x → Fits (width_of f) r x
     fitting x e = subst (λ y. Fits (width_of f) r y) (stored x e) (f.well_formed.ordered r within)
 
-    by_operands : (x : Row) → get_or rows r (Signal 0) ≡ x → meaning o steps f r i ≡ unrolled o steps (meaning o steps f) r x i
+    by_operands : (x : Row) → row ≡ x → meaning o steps f r i ≡ unrolled o steps (meaning o steps f) r x i
     by_operands x e = row_law o steps (rows_of f) r (width_of f) x i within (sym (stored x e)) (fitting x e)
 
     -- the value of each kind of row from those of its operands
-    pub of_signal : (k : ℕ) (v : V) → get_or rows r (Signal 0) ≡ Signal k → v ≡ signal_value o steps k i → v ≡ meaning o steps f r i
+    pub of_signal : (k : ℕ) (v : V) → row ≡ Signal k → v ≡ signal_value o steps k i → v ≡ meaning o steps f r i
     of_signal k v e q = q ∙ sym (by_operands (Signal k) e)
 
-    pub of_not : (a : ℕ) (x v : V) → get_or rows r (Signal 0) ≡ Not a → x ≡ cell_of grid a i x → v ≡ o.turn x → v ≡ meaning o steps f r i
+    pub of_not : (a : ℕ) (x v : V) → row ≡ Not a → x ≡ cell_of grid a i x → v ≡ o.turn x → v ≡ meaning o steps f r i
     of_not a x v e p q = q ∙ ap o.turn (look a x (fitting (Not a) e) p) ∙ sym (by_operands (Not a) e)
 
-    pub of_or : (a b : ℕ) (x y v : V) → get_or rows r (Signal 0) ≡ Or a b → x ≡ cell_of grid a i x → y ≡ cell_of grid b i y → v ≡ o.join x y → v ≡ meaning o steps f r i
+    pub of_or : (a b : ℕ) (x y v : V) → row ≡ Or a b → x ≡ cell_of grid a i x → y ≡ cell_of grid b i y → v ≡ o.join x y → v ≡ meaning o steps f r i
     of_or a b x y v e p p' q =
         let u = fitting (Or a b) e in
         q ∙ rw (look a x u.0 p, look b y u.1 p') (sym (by_operands (Or a b) e))
 
-    pub of_next : (a j : ℕ) (x v : V) → get_or rows r (Signal 0) ≡ Next a → (i ≤ length steps → j ≡ i + 1) → (length steps < i → j ≡ i) → x ≡ cell_of grid a j x → v ≡ o.later x → v ≡ meaning o steps f r i
+    pub of_next : (a j : ℕ) (x v : V) → row ≡ Next a → (i ≤ length steps → j ≡ i + 1) → (length steps < i → j ≡ i) → x ≡ cell_of grid a j x → v ≡ o.later x → v ≡ meaning o steps f r i
     of_next a j x v e h l p q = q ∙ ap o.later (look_next a j x (fitting (Next a) e) h l p) ∙ sym (by_operands (Next a) e)
 
-    pub of_until : (a b : ℕ) (x y z m v : V) → get_or rows r (Signal 0) ≡ Until a b → x ≡ cell_of grid a i x → y ≡ cell_of grid b i y → z ≡ cond (leb i (length steps)) (o.later (cell_of grid r (i + 1) o.no)) o.«open» → m ≡ meet o x z → v ≡ o.join y m → v ≡ meaning o steps f r i
+    pub of_until : (a b : ℕ) (x y z m v : V) → row ≡ Until a b → x ≡ cell_of grid a i x → y ≡ cell_of grid b i y → z ≡ cond (leb i (length steps)) (o.later (cell_of grid r (i + 1) o.no)) o.«open» → m ≡ meet o x z → v ≡ o.join y m → v ≡ meaning o steps f r i
     of_until a b x y z m v e p p' n k q =
         let u = fitting (Until a b) e in
         q ∙ rw (k, look a x u.0 p, look b y u.1 p', n ∙ look_ahead) (sym (by_operands (Until a b) e))
 
-    pub of_eventually : (a : ℕ) (x z v : V) → get_or rows r (Signal 0) ≡ Eventually a → x ≡ cell_of grid a i x → z ≡ cond (leb i (length steps)) (o.later (cell_of grid r (i + 1) o.no)) o.«open» → v ≡ o.join x z → v ≡ meaning o steps f r i
+    pub of_eventually : (a : ℕ) (x z v : V) → row ≡ Eventually a → x ≡ cell_of grid a i x → z ≡ cond (leb i (length steps)) (o.later (cell_of grid r (i + 1) o.no)) o.«open» → v ≡ o.join x z → v ≡ meaning o steps f r i
     of_eventually a x z v e p n q = q ∙ rw (look a x (fitting (Eventually a) e) p, n ∙ look_ahead) (sym (by_operands (Eventually a) e))

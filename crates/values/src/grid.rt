@@ -32,12 +32,11 @@ impl<'a, T: Copy> Grid<'a, T> {
     pub fn has(&self, r: usize, i: usize) -> bool
         ensures { MatchBool result (HasCell self.now r i) (¬ HasCell self.now r i) }
     {
-        match self.rows.checked_mul(self.positions) {
-            Some(all) => all <= self.cells.len()
-                && r < self.rows
-                && (1..=self.positions).contains(&i),
-            None => false,
-        }
+        self.rows
+            .checked_mul(self.positions)
+            .is_some_and(|all| all <= self.cells.len())
+            && r < self.rows
+            && (1..=self.positions).contains(&i)
     }
 
     /// The value of row r at position i, if it has a cell.

@@ -53,7 +53,6 @@ impl Step {
         ensures value { result ≡ nat_lt (set_of self) (2 ^ width) }
         ensures signals { IsTrue result ↔ Below width (set_of self) }
     {
-        let bits = self.bits();
-        width >= 64 || bits >> width == 0
+        width >= 64 || self.bits() >> width == 0
     }
 }

@@ -1,6 +1,7 @@
 //! The value of every row at every position: backward, column by column.
-ghost use Rattle.std.specs.Prelude.{◌≡◌, ◌+◌, ◌≤◌, length, if◌then◌else◌, nat_le};
-ghost use Rattle.ltl.specs.Formulas.{row_count};
+ghost use Rattle.std.specs.Prelude.{◌≡◌, ◌+◌, ◌≤◌, length, if◌then◌else◌, nat_le, slice_index_or};
+ghost use Rattle.ltl.specs.Formulas.{rows_of, row_count};
+ghost use Rattle.ltl.specs.declared.row.Row.TheVariants.{Signal};
 ghost use Rattle.ltl.specs.Steps.{step_at, set_of};
 ghost use Rattle.ltl.specs.Values.{signal_value};
 ghost use Rattle.values.specs.Answers.{evaluated, Filled, Left};
@@ -47,14 +48,15 @@ impl<'f, 'r, R: Recording> Evaluation<'f, 'r, R> {
         }
     }
 
-    /// The value of row r at position i, where the rows below it there, and all rows after there, stand in the grid.
-    fn cell<S: Scale>(&self, grid: &Grid<S>, step: Step, r: usize, i: usize) -> S
+    /// The value of this row, which is row r, at position i, where the rows below it there, and all rows after there, stand in the grid.
+    fn cell<S: Scale>(&self, grid: &Grid<S>, step: Step, row: Row, r: usize, i: usize) -> S
+        requires row { row ≡ slice_index_or (rows_of self.now.formula.now) r (Signal 0) }
         requires inside { HasCell grid.now r i }
         requires stands { Stands S.ops (R.steps self.now.recording.now) self.now.formula.now grid.now i r }
         requires step { set_of step ≡ step_at (R.steps self.now.recording.now) i }
         ensures { result ≡ meaning S.ops (R.steps self.now.recording.now) self.now.formula.now r i }
     {
-        match self.formula.rows()[r] {
+        match row {
             Row::Signal(k) => self.signal(step, k, i),
             Row::Not(a) => grid.at(usize::from(a), i).turn(),
             Row::Or(a, b) => grid.at(usize::from(a), i).join(grid.at(usize::from(b), i)),
@@ -80,9 +82,8 @@ impl<'f, 'r, R: Recording> Evaluation<'f, 'r, R> {
         ensures frame { Frame grid.old grid.new }
     {
         let step = self.recording.step(i);
-        // A range, since `r` is the row's coordinate in the grid.
-        for r in 0..self.formula.row_count() {
-            let v = self.cell(grid, step, r, i);
+        for (r, row) in self.formula.rows().iter().enumerate() {
+            let v = self.cell(grid, step, *row, r, i);
             grid.put(r, i, v);
         }
     }

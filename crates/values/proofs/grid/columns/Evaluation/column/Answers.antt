@@ -1,10 +1,11 @@
-use Rattle.std.proofs.Common.{arith}
+use Rattle.std.proofs.Common.{length, ap, arith}
 use Rattle.values.proofs.Columns.{frame_trans, frame_stored, stands_stored, column_has}
 use Rattle.values.proofs.grid.columns.Evaluation.column.Goals as goal
 
 pub loop-r-preserved : goal.loop-r-preserved
 loop-r-preserved g c =
     let inv = c.loop-r.invariant in
+    let size = ap length c.rows-row-items.ensures.value in
     let h = column_has _ _ _ c.loop-r.r inv.stands (omega arith) (omega arith) (omega (arith, inv.frame.positions_is)) in
     let s = c.put.ensures in
     record {
