@@ -1,5 +1,5 @@
 //! The prefix reader: the words of a formula, and the rows that it makes.
-ghost use Rattle.std.specs.Prelude.{◌≡◌, ◌+◌, ◌*◌, ◌<◌, ◌≤◌, [], ◌∷◌, length, Err, MatchResult};
+ghost use Rattle.std.specs.Prelude.{◌≡◌, ◌+◌, ◌*◌, ◌<◌, ◌≤◌, [], ◌∷◌, length, Err, IfOk, OnOk, MatchResult};
 ghost use Rattle.sheet.specs.Cuts.{part_of, parts_left, end_of};
 ghost use Rattle.sheet_reader.specs.Drafts.{kept, Known, line, Got, Bad, Whole};
 ghost use Rattle.sheet_reader.specs.Names.{names_in};
@@ -39,7 +39,10 @@ impl<'a> Declared<'a> {
     fn formula(&self, words: &mut Words, draft: &mut Draft) -> Result<usize, FormulaFault>
         requires known { Known self.now.sheet.now (names_in self.now.names.now) draft.old.count }
         requires few { draft.old.count + 4 * length (parts_left words.old) ≤ 20000 }
-        ensures formula { MatchResult result (λ row. (row < draft.new.count) × (draft.new.count + 4 * length (parts_left words.new) ≤ draft.old.count + 4 * length (parts_left words.old)) × (draft.old.count ≤ draft.new.count) × Got (line self.now.sheet.now (names_in self.now.names.now) words.old) (line self.now.sheet.now (names_in self.now.names.now) words.new) (end_of words.old) draft.old.count (kept draft.old) draft.new.count (kept draft.new) row) (λ f. Bad (line self.now.sheet.now (names_in self.now.names.now) words.old) (end_of words.old) f) }
+        ensures row { IfOk result (λ row. row < draft.new.count) }
+        ensures grows { OnOk result (draft.old.count ≤ draft.new.count) }
+        ensures few { OnOk result (draft.new.count + 4 * length (parts_left words.new) ≤ draft.old.count + 4 * length (parts_left words.old)) }
+        ensures formula { MatchResult result (λ row. Got (line self.now.sheet.now (names_in self.now.names.now) words.old) (line self.now.sheet.now (names_in self.now.names.now) words.new) (end_of words.old) draft.old.count (kept draft.old) draft.new.count (kept draft.new) row) (λ f. Bad (line self.now.sheet.now (names_in self.now.names.now) words.old) (end_of words.old) f) }
         ensures end { end_of words.new ≡ end_of words.old }
     {
         let word = wanted_word(words)?;

@@ -44,7 +44,8 @@ impl Draft {
     // `few` is no invariant of a draft: each row raises the count, and only the words of a sheet bound it.
     fn push_rows(&mut self, rows: &[Row]) -> usize
         requires few { self.old.count < 60000 }
-        requires some { (0 < length rows.now) × (length rows.now ≤ 4) }
+        requires some { 0 < length rows.now }
+        requires short { length rows.now ≤ 4 }
         ensures last { result ≡ self.old.count + length rows.now - 1 }
         ensures count { self.new.count ≡ self.old.count + length rows.now }
         ensures rows { (xs : List Row) → Agree self.old.count rows.now xs → kept self.new ≡ take 64 (kept self.old ++ xs) }
