@@ -6,6 +6,7 @@ mod sheets;
 
 #[cfg(test)]
 mod tests {
+    use heap_grid::cells::filled;
     use ltl::formula::Formula;
     use ltl::refusal::{Part, Refusal};
     use ltl::row::Row;
@@ -206,6 +207,25 @@ mod tests {
         assert!(rt; cells[2] == Truth::Undecided);
         assert!(rt; cells[3] == Truth::Undecided);
         assert!(rt; cells[4] == Truth::True, "the cell past them stays");
+        Ok(())
+    }
+
+    #[test]
+    fn cells_on_the_heap(rt: HostRuntime) -> Result<(), Fail> {
+        let Some(formula) = Formula::new(1, &[A, Row::Eventually(0)], 1) else {
+            return Err(Fail::new("no formula"));
+        };
+        let mut words = [0u32; 4];
+        let Ok(mut recorder) = PlainRecorder::open(1, &mut words) else {
+            return Err(Fail::new("not opened"));
+        };
+        recorder.record(Step::empty())?;
+        let cells: Vec<Truth> = filled(rt.alloc(), &formula, &recorder)?;
+        assert_eq!(rt; cells.len(), 4, "two rows and two positions");
+        assert!(rt; cells[0] == Truth::False);
+        assert!(rt; cells[1] == Truth::Undecided);
+        assert!(rt; cells[2] == Truth::Undecided);
+        assert!(rt; cells[3] == Truth::Undecided);
         Ok(())
     }
 }
