@@ -1,4 +1,4 @@
-mod Named
+pub mod Named
 mod Splits
 mod Around
 mod Taken

@@ -22,7 +22,8 @@ bits_in (Err w) = 0
 abbrev Has : (List ℕ → Option ℕ) → ℕ → ℕ → List Part → ℕ → Type 0
 Has find s v ws k = (has v k ≡ true) ↔ ((has s k ≡ true) ⊎ Names find k ws)
 
-empty_set : (k : ℕ) → has 0 k ≡ true → ⊥
+-- the set 0 has no signal
+pub empty_set : (k : ℕ) → has 0 k ≡ true → ⊥
 empty_set k e = true≢false (sym e ∙ has_none 0 0 k (omega arith) (omega arith))
 
 abbrev Law : (List ℕ → Option ℕ) → List Part → Line → Type 0

@@ -1,21 +1,18 @@
 -- The signals that a line of the input names.
-use Rattle.std.proofs.Common.{◌≡◌, ℕ, Bool, true, false, ◌↔◌, List, [], ◌∷◌, Some, None, codes, sym, refl, ◌∙◌, ⊎_elim, arith, rules}
+use Rattle.std.proofs.Common.{◌≡◌, ℕ, Bool, true, false, ◌↔◌, List, [], ◌∷◌, Some, None, codes, sym, refl, ⊎_elim, rules}
 use Rattle.std.proofs.lemmas.Slice.Eq.{bytes_eq-Decides}
 use Rattle.std.specs.Str.{bytes_eq}
 use Rattle.std.proofs.lemmas.Bool.{true≢false, and_parts}
 use Rattle.ltl.specs.Steps.{has, set_of}
 use Rattle.ltl.specs.declared.step.Step.{Step}
-use Rattle.ltl.proofs.Sets.{has_none}
 use Rattle.sheet.specs.Parts.{Part}
+use Rattle.input.proofs.Named.{empty_set}
 use Rattle.input.specs.Splits.{none, only}
 use Rattle.input.specs.Lines.{Names, Told}
 use Rattle.tracecheck.specs.Signals.{signal_named}
 
 same_text : (xs ys : List ℕ) → bytes_eq xs ys ≡ true → xs ≡ ys
 same_text xs ys e = search (rules, bytes_eq-Decides)
-
-empty_set : (k : ℕ) → has 0 k ≡ true → ⊥
-empty_set k e = true≢false (sym e ∙ has_none 0 0 k (omega arith) (omega arith))
 
 dash : (t : List ℕ) (k : ℕ) → bytes_eq t (codes "-") ≡ true → signal_named t ≡ Some k → ⊥
 dash t k h e = let z : t ≡ codes "-" = same_text t (codes "-") h in true≢false (let q : None ≡ Some k = rw z at e in cc)
