@@ -2,13 +2,16 @@
 #![tactic(auto)]
 
 #[cfg(test)]
+mod refusals;
+#[cfg(test)]
 mod sheets;
 
 #[cfg(test)]
 mod tests {
-    use heap_grid::cells::filled;
+    use crate::refusals::told;
+    use heap_grid::cells::judged;
     use ltl::formula::Formula;
-    use ltl::refusal::{Part, Refusal};
+    use ltl::refusal::Part;
     use ltl::row::Row;
     use ltl::step::Step;
     use recorder::plain::PlainRecorder;
@@ -31,9 +34,7 @@ mod tests {
     // The pair of the last row at position 1, over steps of two signals.
     fn first_pair(rows: &[Row], steps: &[u64]) -> Result<Pair, Fail> {
         let watch = rows.len().saturating_sub(1);
-        let Some(formula) = Formula::new(2, rows, watch) else {
-            return Err(Fail::new("no formula"));
-        };
+        let formula = Formula::new(2, rows, watch).ok_or("no formula")?;
         let mut words = [0u32; 8];
         let Ok(mut recorder) = PlainRecorder::open(2, &mut words) else {
             return Err(Fail::new("not opened"));
@@ -117,15 +118,6 @@ mod tests {
         );
     }
 
-    // A refusal's number, part and place.
-    fn told(refusal: Refusal) -> (u8, Part, usize) {
-        (
-            refusal.question.number(),
-            refusal.question.part(),
-            refusal.place,
-        )
-    }
-
     // How opening over so many words is refused, if it is.
     fn opening(width: u8, words: &mut [u32]) -> Option<(u8, Part, usize)> {
         match PlainRecorder::open(width, words) {
@@ -186,9 +178,7 @@ mod tests {
 
     #[test]
     fn grids(rt: HostRuntime) -> Result<(), Fail> {
-        let Some(formula) = Formula::new(1, &[A, Row::Eventually(0)], 1) else {
-            return Err(Fail::new("no formula"));
-        };
+        let formula = Formula::new(1, &[A, Row::Eventually(0)], 1).ok_or("no formula")?;
         let mut words = [0u32; 4];
         let Ok(mut recorder) = PlainRecorder::open(1, &mut words) else {
             return Err(Fail::new("not opened"));
@@ -212,20 +202,21 @@ mod tests {
 
     #[test]
     fn cells_on_the_heap(rt: HostRuntime) -> Result<(), Fail> {
-        let Some(formula) = Formula::new(1, &[A, Row::Eventually(0)], 1) else {
-            return Err(Fail::new("no formula"));
-        };
+        let formula = Formula::new(1, &[A, Row::Eventually(0)], 1).ok_or("no formula")?;
         let mut words = [0u32; 4];
         let Ok(mut recorder) = PlainRecorder::open(1, &mut words) else {
             return Err(Fail::new("not opened"));
         };
         recorder.record(Step::empty())?;
-        let cells: Vec<Truth> = filled(rt.alloc(), &formula, &recorder)?;
+        let cells = judged(rt.alloc(), &formula, &recorder)?;
         assert_eq!(rt; cells.len(), 4, "two rows and two positions");
-        assert!(rt; cells[0] == Truth::False);
-        assert!(rt; cells[1] == Truth::Undecided);
-        assert!(rt; cells[2] == Truth::Undecided);
-        assert!(rt; cells[3] == Truth::Undecided);
+        assert_eq!(rt; cells[0].0, Truth::False);
+        assert_eq!(rt; cells[1].0, Truth::Undecided);
+        assert_eq!(rt; cells[2].0, Truth::Undecided);
+        assert_eq!(rt; cells[3].0, Truth::Undecided);
+        let one = Count::Number(1);
+        assert_eq!(rt; cells[0].1, Pair::new(Count::Impossible, Count::Number(0)));
+        assert_eq!(rt; cells[2].1, Pair::new(one, Count::Infinite));
         Ok(())
     }
 }

@@ -1,4 +1,5 @@
 //! Labels, signals by name and step lines of sheets, as tests over the public calls.
+use crate::refusals::told;
 use input::lines::{split_input, step_line};
 use input::places::line_around;
 use input::steps::{StepFault, record_lines};
@@ -39,12 +40,7 @@ fn labels(rt: HostRuntime) -> Result<(), Fail> {
     match read(TEXT)?.label(TEXT, b"spare", 6) {
         Ok(_) => Err(Fail::new("the formula has six rows")),
         Err(fault) => {
-            let refusal = fault.refusal();
-            let question = refusal.question;
-            assert_eq!(rt;
-                (question.number(), question.part(), refusal.place),
-                fifteen
-            );
+            assert_eq!(rt; told(fault.refusal()), fifteen);
             Ok(())
         },
     }
@@ -118,7 +114,7 @@ fn recorded_lines(rt: HostRuntime) -> Result<(), Fail> {
     match record_lines(&mut recorder, &signals_of(&sheet), b"r\n\n go x\nr") {
         Err(StepFault::Strange { line, word }) => {
             assert_eq!(rt; line, 3);
-            assert_eq!(rt; word, 4);
+            assert_eq!(rt; word.at, 4);
         }
         _ => return Err(Fail::new("x is no signal")),
     }

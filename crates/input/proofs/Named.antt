@@ -4,14 +4,11 @@ use lib.Bits.{bit_or}
 use Rattle.std.proofs.lemmas.Bool.{true≢false, or_cases, or_left, or_right, eqb-true, eq-eqb}
 use Rattle.ltl.specs.Steps.{has, set_of, step_from}
 use Rattle.ltl.specs.declared.step.Step.{Step}
-use Rattle.ltl.proofs.Sets.{has_or, has_one, has_none}
+use Rattle.ltl.proofs.Sets.{has_more, has_none}
 use Rattle.sheet.specs.Parts.{Part}
 use Rattle.input.specs.Splits.{none, only}
 use Rattle.input.specs.Lines.{one_more, with_named, told, telling, line_of, Names, Told}
-use Rattle.input.specs.declared.lines.StrangeWord.{StrangeWord}
-
-abbrev Line : Type 0
-Line = Result (Option Step) StrangeWord
+use Rattle.input.specs.Recorded.{Line}
 
 abbrev bits_in : Line → ℕ
 bits_in (Ok None) = 0
@@ -34,7 +31,7 @@ module _ (find : List ℕ → Option ℕ) where
   one_word s v w ws k ih None q e = absurd (true≢false (cc))
   one_word s v w ws k ih (Some j) q e =
       let r = ih (bit_or s (2 ^ j)) e in
-      let b : has (bit_or s (2 ^ j)) k ≡ (has s k || eqb k j) = has_or s (2 ^ j) k ∙ ap (λ x. has s k || x) (has_one j k) in (
+      let b : has (bit_or s (2 ^ j)) k ≡ (has s k || eqb k j) = has_more s j k in (
         (λ h. ⊎_elim
             (λ (x : has (bit_or s (2 ^ j)) k ≡ true). ⊎_elim
             (λ (y : has s k ≡ true). inl y)

@@ -10,7 +10,7 @@ use Rattle.input.specs.declared.steps.StepFault.{StepFault}
 use Rattle.input.specs.declared.steps.StepFault.TheVariants as fault
 
 -- what a line says: nothing, a step, or a word that names no signal
-abbrev Line : Type 0
+abbrev pub Line : Type 0
 Line = Result (Option Step) StrangeWord
 
 -- what a line says, where `find` gives the signal of a name
@@ -40,7 +40,7 @@ AllTell find (l ∷ ls) = Tells (said find l) × AllTell find ls
 
 -- why a line ends the recording: it has a word that names no signal, or the recorder, which answers so, refuses its step
 abbrev pub Stops : (ℕ → Result ℕ RecordFault) → Line → ℕ → StepFault → Type 0
-Stops answer line at (fault.Strange p k) = (p ≡ at) × (line ≡ Err (record { at = k }))
+Stops answer line at (fault.Strange p w) = (p ≡ at) × (line ≡ Err w)
 Stops answer line at (fault.Refused p f) = (p ≡ at) × ((s : Step) × (line ≡ Ok (Some s)) × (answer (set_of s) ≡ Err f))
 
 -- how the recording ended, with these lines left

@@ -3,33 +3,24 @@ ghost use Rattle.std.specs.Prelude.{◌≡◌, ◌≤◌, min, not, ◌==◌, re
 ghost use Rattle.std.specs.List.{take_while};
 ghost use Rattle.input.specs.Places.{around};
 
+use sheet::words::run_len;
 use std::ops::Range;
 
 /// How many bytes stand after the last byte 10.
+// Beside `run_len`, which goes on from the front: the iterator as a parameter would be longer than either line.
 fn last_line_len(s: &[u8]) -> usize
     ensures { result ≡ length (take_while (λ b. not (b == 10)) (reverse s.now)) }
 {
     s.iter().rev().take_while(|b| **b != b'\n').count()
 }
 
-/// How many bytes stand before the first byte 10.
-// Beside the one above, which differs in its direction: the iterator as a parameter would be longer than either line.
-fn first_line_len(s: &[u8]) -> usize
-    ensures { result ≡ length (take_while (λ b. not (b == 10)) s.now) }
-{
-    s.iter().take_while(|b| **b != b'\n').count()
-}
-
-#[tactic(auto, using(crate::proofs::Around::around_is))]
 /// The offsets of the line in which a place lies; a place past the end is the end.
+#[tactic(auto, using(crate::proofs::Around::around_is))]
 pub fn line_around(s: &[u8], place: usize) -> Range<usize>
     ensures is { result ≡ around s.now place }
     ensures within { (result.start ≤ min place (length s.now)) × (result.end ≤ length s.now) × (min place (length s.now) ≤ result.end) }
 {
     let place = place.min(s.len());
     let (before, after) = s.split_at(place);
-    Range {
-        start: place - last_line_len(before),
-        end: place + first_line_len(after),
-    }
+    place - last_line_len(before)..place + run_len(after, b'\n')
 }

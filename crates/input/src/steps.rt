@@ -5,7 +5,7 @@ ghost use Rattle.recorder.specs.Recordings.{record_answer};
 ghost use Rattle.input.specs.Lines.{line_of};
 ghost use Rattle.input.specs.Recorded.{step_of, Tells, Stops, Recorded};
 
-use crate::lines::step_line;
+use crate::lines::{StrangeWord, step_line};
 use recorder::fault::RecordFault;
 use recorder::recording::Recorder;
 use sheet::signals::SignalNames;
@@ -14,8 +14,8 @@ use sheet::words::{Lines, Word};
 /// Why the recording of step lines ended early.
 #[derive(Clone, Copy, Debug)]
 pub enum StepFault {
-    /// In the line at this offset the word at that offset of the line names no signal.
-    Strange { line: usize, word: usize },
+    /// The line at this offset has a word that names no signal.
+    Strange { line: usize, word: StrangeWord },
     /// The recorder refused the step of the line at this offset.
     Refused { line: usize, fault: RecordFault },
 }
@@ -29,10 +29,7 @@ fn record_line<N: SignalNames, R: Recorder>(
     ensures { MatchResult result (λ _. Tells (line_of (N.named names.now) (parts 32 0 line.entry.text.now)) × (R.Recording.steps recorder.new ≡ R.Recording.steps recorder.old ++ step_of (line_of (N.named names.now) (parts 32 0 line.entry.text.now)))) (λ f. (R.Recording.steps recorder.new ≡ R.Recording.steps recorder.old) × Stops (λ s. record_answer (R.Recording.width recorder.new) (R.Recorder.room recorder.new s) (length (R.Recording.steps recorder.new)) s) (line_of (N.named names.now) (parts 32 0 line.entry.text.now)) line.entry.at f) }
 {
     let at = line.at;
-    let told = step_line(names, line.text).map_err(|strange| StepFault::Strange {
-        line: at,
-        word: strange.at,
-    })?;
+    let told = step_line(names, line.text).map_err(|word| StepFault::Strange { line: at, word })?;
     if let Some(step) = told {
         recorder
             .record(step)

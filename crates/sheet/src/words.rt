@@ -21,3 +21,5 @@ pub type Words<'a> = Parts<'a, b' '>;
 pub type Lines<'a> = Parts<'a, b'\n'>;
 
 mod cuts;
+
+pub use cuts::run_len;

@@ -2,28 +2,24 @@
 #![tactic(auto)]
 
 use anyhow::anyhow;
-use heap_grid::cells::filled;
+use heap_grid::cells::judged;
 use input::lines::split_input;
 use input::places::line_around;
 use input::steps::{StepFault, record_lines};
 use ltl::formula::Formula;
 use ltl::refusal::Refusal;
-use recorder::plain::PlainRecorder;
+use recorder::plain::{LIMIT, PlainRecorder};
 use recorder::recording::Recording;
 use scales::pair::Pair;
 use scales::truth::Truth;
-use sheet_faults::fault::SheetFault;
 use sheet_reader::reading::read;
 use sheet_reader::reading::signals::SheetSignals;
 use std::alloc::Global;
-use std::fmt::Write;
+use std::fmt::{Display, Write};
 use std::io::Read;
 use std::process::ExitCode;
 use std::{env, fs};
 use values::grid::Grid;
-
-/// The most steps that the program keeps.
-const STEPS: usize = 4096;
 
 /// What `--help` prints.
 const HELP: &str = "usage: sheetcheck [FILE]
@@ -56,55 +52,49 @@ fn shown_line(heap: Global, text: &[u8], place: usize) -> anyhow::Result<String>
         shown.push(if printed { char::from(*b) } else { '.' })?;
     }
     shown.push('\n')?;
-    for _ in start..place.min(text.len()) {
-        shown.push(' ')?;
-    }
+    let indent = " ".repeat(heap, place.min(text.len()) - start)?;
+    shown.push_str(indent.as_str())?;
     shown.push('^')?;
     Ok(shown)
 }
 
-/// Tells a refusal on standard output by number and place, and on standard error in words.
-fn tell(rt: &HostRuntime, refusal: Refusal, shown: &str) -> anyhow::Result<ExitCode> {
+/// Tells a refusal on standard output by number and place, and on standard error in words, with the line of the text in
+/// which this place lies.
+fn tell<D: Display>(
+    rt: &HostRuntime,
+    refusal: Refusal,
+    text: &[u8],
+    place: usize,
+    fault: &D,
+) -> anyhow::Result<ExitCode> {
     let question = refusal.question;
     let number = question.number();
     let part = question.part();
-    let place = refusal.place;
-    println!(rt; "refused {number} {place}")?;
+    let told = refusal.place;
+    let shown = shown_line(rt.alloc(), text, place)?;
+    println!(rt; "refused {number} {told}")?;
     eprintln!(rt; "sheetcheck: refused by question {number} of the {part}: {question}")?;
-    eprintln!(rt; "{shown}")?;
+    eprintln!(rt; "{shown} {fault}")?;
     Ok(ExitCode::FAILURE)
-}
-
-/// A sheet that was not read.
-fn refused_sheet(rt: &HostRuntime, text: &[u8], fault: SheetFault) -> anyhow::Result<ExitCode> {
-    let refusal = fault.refusal();
-    let line = shown_line(rt.alloc(), text, refusal.place)?;
-    let shown = format!(in rt.alloc(); "{line} {fault}")?;
-    tell(rt, refusal, shown.as_str())
 }
 
 /// Step lines of which one tells no step, or a step that was not recorded.
 fn refused_steps(rt: &HostRuntime, lines: &[u8], fault: StepFault) -> anyhow::Result<ExitCode> {
     match fault {
         StepFault::Strange { line, word } => {
-            let shown = shown_line(rt.alloc(), lines, line.saturating_add(word))?;
+            let shown = shown_line(rt.alloc(), lines, line.saturating_add(word.at))?;
             eprintln!(rt; "sheetcheck: a step line has names of signals, or `-` alone")?;
-            eprintln!(rt; "{shown} the word is no signal")?;
+            eprintln!(rt; "{shown} {word}")?;
             Ok(ExitCode::FAILURE)
         }
-        StepFault::Refused { line, fault } => {
-            let line = shown_line(rt.alloc(), lines, line)?;
-            let shown = format!(in rt.alloc(); "{line} {fault}")?;
-            tell(rt, fault.refusal(), shown.as_str())
-        }
+        StepFault::Refused { line, fault } => tell(rt, fault.refusal(), lines, line, &fault),
     }
 }
 
 /// One line for each position of a row.
 fn table(
     heap: Global,
-    values: &Grid<Truth>,
-    counts: &Grid<Pair>,
+    cells: &Grid<(Truth, Pair)>,
     row: usize,
     n: usize,
 ) -> anyhow::Result<String> {
@@ -112,9 +102,7 @@ fn table(
     writeln!(text, "position s f value")?;
     // A range, since `i` is the position that is printed.
     for i in 1..=n.saturating_add(1) {
-        let (Some(value), Some(pair)) = (values.get(row, i), counts.get(row, i)) else {
-            return Err(anyhow!("a row has no cell"));
-        };
+        let (value, pair) = cells.get(row, i).ok_or(anyhow!("a row has no cell"))?;
         let s = pair.s;
         let f = pair.f;
         if i <= n {
@@ -127,7 +115,7 @@ fn table(
 }
 
 /// Prints the table of the watch row over a recording, and tells on standard error what was judged.
-fn judged<R: Recording>(
+fn report<R: Recording>(
     rt: &HostRuntime,
     formula: &Formula,
     recording: &R,
@@ -135,12 +123,9 @@ fn judged<R: Recording>(
     let heap = rt.alloc();
     let rows = formula.row_count();
     let n = recording.len();
-    let positions = n.saturating_add(1);
-    let mut values = filled(heap, formula, recording)?;
-    let mut counts = filled(heap, formula, recording)?;
-    let values = Grid::new(values.as_mut_slice(), rows, positions);
-    let counts = Grid::new(counts.as_mut_slice(), rows, positions);
-    let text = table(heap, &values, &counts, formula.watch(), n)?;
+    let mut cells = judged(heap, formula, recording)?;
+    let cells = Grid::new(cells.as_mut_slice(), rows, n + 1);
+    let text = table(heap, &cells, formula.watch(), n)?;
     rt.print(text.as_str())?;
     let width = formula.width();
     eprintln!(rt; "sheetcheck: {width} signals, {rows} rows, {n} steps")?;
@@ -150,14 +135,14 @@ fn judged<R: Recording>(
 /// Judges a sheet over the steps that the lines tell.
 fn judge_steps(rt: &HostRuntime, signals: SheetSignals, lines: &[u8]) -> anyhow::Result<ExitCode> {
     let formula = &signals.sheet.formula;
-    let mut words = vec![in rt.alloc(); 0u32; STEPS]?;
+    let mut words = vec![in rt.alloc(); 0u32; LIMIT]?;
     // Not `map_err(..)?`: the error holds the words that were handed in, and no proof is made of a closure over it.
     let mut recorder = match PlainRecorder::open(formula.width(), words.as_mut_slice()) {
         Ok(recorder) => recorder,
         Err(refused) => return Err(refused.fault.into()),
     };
     match record_lines(&mut recorder, &signals, lines) {
-        Ok(()) => judged(rt, formula, &recorder),
+        Ok(()) => report(rt, formula, &recorder),
         Err(fault) => refused_steps(rt, lines, fault),
     }
 }
@@ -176,7 +161,10 @@ fn judge(rt: &HostRuntime, input: &[u8]) -> anyhow::Result<ExitCode> {
             },
             lines,
         ),
-        Err(fault) => refused_sheet(rt, text, fault),
+        Err(fault) => {
+            let refusal = fault.refusal();
+            tell(rt, refusal, text, refusal.place, &fault)
+        }
     }
 }
 

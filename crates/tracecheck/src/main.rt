@@ -6,9 +6,9 @@ mod signals;
 
 use anyhow::anyhow;
 use bench::bench;
-use heap_grid::cells::filled;
+use heap_grid::cells::judged;
 use ltl::formula::Formula;
-use recorder::plain::PlainRecorder;
+use recorder::plain::{LIMIT, PlainRecorder};
 use recorder::recording::{Recorder, Recording};
 use scales::pair::Pair;
 use scales::truth::Truth;
@@ -19,10 +19,8 @@ use std::io::{BufRead, BufReader};
 use std::process::ExitCode;
 use values::grid::Grid;
 
-/// The most steps that the program keeps.
-const STEPS: usize = 4096;
-
 /// Records the step of one line, or says what is wrong with the line.
+// Beside `record_lines` of `input`: this program reads a line at a time, and tells its number.
 fn record_line<R: Recorder>(
     recorder: &mut R,
     heap: Global,
@@ -64,14 +62,11 @@ fn rows_at(
     text: &mut String,
     heap: Global,
     formula: &Formula,
-    values: &Grid<Truth>,
-    counts: &Grid<Pair>,
+    cells: &Grid<(Truth, Pair)>,
     i: usize,
 ) -> anyhow::Result<()> {
     for (r, row) in formula.rows().iter().enumerate() {
-        let (Some(value), Some(pair)) = (values.get(r, i), counts.get(r, i)) else {
-            return Err(anyhow!("a row has no cell"));
-        };
+        let (value, pair) = cells.get(r, i).ok_or(anyhow!("a row has no cell"))?;
         let row = format!(in heap; "{row}")?;
         let value = format!(in heap; "{value}")?;
         writeln!(text, "  row {r}  {row:<14} {value:<10} {pair}")?;
@@ -80,14 +75,10 @@ fn rows_at(
 }
 
 /// The whole report on a formula over a recording.
-fn judged<R: Recording>(heap: Global, formula: &Formula, recording: &R) -> anyhow::Result<String> {
-    let rows = formula.row_count();
+fn report<R: Recording>(heap: Global, formula: &Formula, recording: &R) -> anyhow::Result<String> {
     let n = recording.len();
-    let positions = n.saturating_add(1);
-    let mut values = filled(heap, formula, recording)?;
-    let mut counts = filled(heap, formula, recording)?;
-    let values = Grid::new(values.as_mut_slice(), rows, positions);
-    let counts = Grid::new(counts.as_mut_slice(), rows, positions);
+    let mut cells = judged(heap, formula, recording)?;
+    let cells = Grid::new(cells.as_mut_slice(), formula.row_count(), n + 1);
     let mut text = String::new(heap);
     let watch = formula.watch();
     writeln!(
@@ -95,14 +86,14 @@ fn judged<R: Recording>(heap: Global, formula: &Formula, recording: &R) -> anyho
         "always implies r eventually g: signal 0 is r, signal 1 is g, row {watch} is watched"
     )?;
     // A range, since `i` is the position that is printed.
-    for i in 1..=positions {
+    for i in 1..=n + 1 {
         if i <= n {
             let step = recording.step(i);
             writeln!(text, "position {i}, step {step}")?;
         } else {
             writeln!(text, "position {i}, after the last step")?;
         }
-        rows_at(&mut text, heap, formula, &values, &counts, i)?;
+        rows_at(&mut text, heap, formula, &cells, i)?;
     }
     writeln!(text, "steps accepted: {n}")?;
     Ok(text)
@@ -112,14 +103,14 @@ fn judged<R: Recording>(heap: Global, formula: &Formula, recording: &R) -> anyho
 fn run(rt: &HostRuntime) -> anyhow::Result<()> {
     let heap = rt.alloc();
     let formula = bench();
-    let mut words = vec![in heap; 0u32; STEPS]?;
+    let mut words = vec![in heap; 0u32; LIMIT]?;
     // Not `map_err(..)?`: the error holds the words that were handed in, and no proof is made of a closure over it.
     let mut recorder = match PlainRecorder::open(formula.width(), words.as_mut_slice()) {
         Ok(recorder) => recorder,
         Err(refused) => return Err(refused.fault.into()),
     };
     record_lines(rt, &mut recorder)?;
-    let text = judged(heap, &formula, &recorder)?;
+    let text = report(heap, &formula, &recorder)?;
     rt.print(text.as_str())?;
     Ok(())
 }

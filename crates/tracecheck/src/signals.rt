@@ -26,6 +26,7 @@ impl SignalNames for BenchSignals {
 }
 
 /// The step that a line of the input tells: none where it is blank.
+// Beside `step_line`: what it promises of `-`, which names no signal of the bench, is its own.
 #[tactic(auto, using(crate::proofs::Named::names_of_told))]
 pub fn read_line(line: &[u8]) -> Result<Option<Step>, StrangeWord>
     ensures is { result ≡ line_of signal_named (parts 32 0 line.now) }

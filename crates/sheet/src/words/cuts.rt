@@ -76,9 +76,9 @@ fn gap_len(s: &[u8], separator: u8) -> usize
     s.iter().take_while(|b| **b == separator).count()
 }
 
-/// How many other bytes stand at the front.
+/// How many bytes stand before the first separator, or all.
 // Beside `gap_len`, which differs in one sign: a test as a parameter would be longer than either line.
-fn run_len(s: &[u8], separator: u8) -> usize
+pub fn run_len(s: &[u8], separator: u8) -> usize
     ensures { result ≡ length (take_while (λ b. not (b == separator)) s.now) }
 {
     s.iter().take_while(|b| **b != separator).count()

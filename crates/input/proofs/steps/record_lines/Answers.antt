@@ -1,3 +1,4 @@
+-- One line more is taken: the check does not find which lines were.
 use Rattle.sheet.specs.Parts.{parts}
 use Rattle.sheet.specs.Cuts.{part_of, parts_left}
 use Rattle.input.proofs.Taken.{one_taken}
