@@ -3,9 +3,9 @@ ghost use Rattle.std.specs.Prelude.{◌≡◌, ◌≤◌, length, Ok, Err, Match
 ghost use Rattle.sheet.specs.Cuts.{part_of, parts_left, end_of};
 ghost use Rattle.sheet.specs.Tokens.{token_of};
 ghost use Rattle.sheet.specs.declared.token.Keyword.TheVariants as key;
-ghost use Rattle.sheet_reader.specs.Names.{names_in, named};
-ghost use Rattle.sheet_reader.specs.Sheets.{start, lines, ask_keyword, name_fault, unless, ask_name, ask_operator, by_keyword, by_words, by_lines, finished, allowed, foreign_byte, read_sheet};
-ghost use Rattle.sheet_reader.specs.States.{state_of, told_plan};
+ghost use Rattle.sheet_reader.specs.Names.{named, within};
+ghost use Rattle.sheet_reader.specs.Sheets.{start, lines, ask_keyword, name_fault, unless, ask_name, ask_operator, by_words, by_lines, finished, allowed, foreign_byte, read_sheet};
+ghost use Rattle.sheet_reader.specs.States.{state_of, told_plan, by_line};
 ghost use Rattle.sheet_reader.specs.Promises.{Promised};
 ghost use Rattle.sheet_reader.specs.Readings.{told};
 
@@ -67,7 +67,7 @@ impl Name {
 impl<'a> Declared<'a> {
     /// Question 4 of a second word: whether it may become a name.
     fn fresh(&self, word: Word) -> Result<(), NameFault>
-        ensures { result ≡ unless (name_fault self.now.sheet.now (names_in self.now.names.now) (part_of word.entry)) }
+        ensures { result ≡ unless (within name_fault self.now (part_of word.entry)) }
     {
         let at = word.at;
         if is_reserved(word.text) {
@@ -84,7 +84,7 @@ impl<'a> Declared<'a> {
 
     /// Question 4: the new name that the words begin with.
     fn new_name<'b>(&self, words: &mut Words<'b>) -> Result<Word<'b>, NameFault>
-        ensures name { MatchResult result (λ w. ask_name self.now.sheet.now (names_in self.now.names.now) (parts_left words.old) (end_of words.old) ≡ Ok (part_of w, parts_left words.new)) (λ f. ask_name self.now.sheet.now (names_in self.now.names.now) (parts_left words.old) (end_of words.old) ≡ Err f) }
+        ensures name { MatchResult result (λ w. within ask_name self.now (parts_left words.old) (end_of words.old) ≡ Ok (part_of w, parts_left words.new)) (λ f. within ask_name self.now (parts_left words.old) (end_of words.old) ≡ Err f) }
         ensures end { end_of words.new ≡ end_of words.old }
     {
         let word = words
@@ -111,7 +111,7 @@ impl Plan {
     /// The plan with a signal line.
     #[tactic(auto, using(crate::proofs::Plans::signal_makes))]
     fn with_signal(self, line: Line) -> Result<Plan, SheetFault>
-        ensures { told_plan result ≡ by_keyword line.entry.sheet.now (state_of self) line.entry.first key.Signal (parts_left line.entry.words) (end_of line.entry.words) }
+        ensures { told_plan result ≡ by_line key.Signal line.entry (state_of self) }
     {
         let Plan {
             mut draft,
@@ -142,7 +142,7 @@ impl Plan {
     /// The plan with a name line.
     #[tactic(auto, using(crate::proofs::Plans::known_in, crate::proofs::Plans::name_full, crate::proofs::Plans::name_room, crate::proofs::Plans::name_makes))]
     fn with_name(self, line: Line) -> Result<Plan, SheetFault>
-        ensures { told_plan result ≡ by_keyword line.entry.sheet.now (state_of self) line.entry.first key.Name (parts_left line.entry.words) (end_of line.entry.words) }
+        ensures { told_plan result ≡ by_line key.Name line.entry (state_of self) }
     {
         let Plan {
             mut draft,
@@ -173,7 +173,7 @@ impl Plan {
     /// The plan with the watch line.
     #[tactic(auto, using(crate::proofs::Plans::known_in, crate::proofs::Plans::watch_sound))]
     fn with_watch(self, line: Line) -> Result<Plan, SheetFault>
-        ensures { told_plan result ≡ by_keyword line.entry.sheet.now (state_of self) line.entry.first key.Watch (parts_left line.entry.words) (end_of line.entry.words) }
+        ensures { told_plan result ≡ by_line key.Watch line.entry (state_of self) }
     {
         let Plan {
             mut draft,
