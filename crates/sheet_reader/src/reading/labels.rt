@@ -35,11 +35,11 @@ impl Sheet {
         if row >= self.formula.row_count() {
             return Err(NoSuchRow);
         }
-        let names = Declared {
+        let declared = Declared {
             sheet,
             names: &self.names,
         };
-        Ok(label_text(names.name_of(row), sheet, spare))
+        Ok(label_text(declared.name_of(row), sheet, spare))
     }
 
     /// The signal that a word names, if it names one, by the sheet that was read.
@@ -48,11 +48,11 @@ impl Sheet {
         ensures below { IfSome result (λ k. k < (reading_of self.now).table.width) }
         ensures few { (reading_of self.now).table.width ≤ 32 }
     {
-        let names = Declared {
+        let declared = Declared {
             sheet,
             names: &self.names,
         };
-        match self.formula.row(names.row_named(word)?) {
+        match self.formula.row(declared.row_named(word)?) {
             Some(Row::Signal(k)) => Some(k),
             _ => None,
         }

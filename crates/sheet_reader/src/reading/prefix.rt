@@ -24,14 +24,13 @@ fn wanted_word<'a>(words: &mut Words<'a>) -> Result<Word<'a>, WordFault>
         .ok_or(WordFault::Missing { at: words.end() })
 }
 
-/// Question 5 where a line is complete: no word follows.
+/// Question 5 where a line is complete: no word follows. Looks at a copy of the words.
 fn nothing_more(mut words: Words) -> Result<(), FormulaFault>
     ensures { result ≡ ask_nothing (parts_left words.entry) }
 {
-    match words.next_part() {
-        Some(word) => Err(FormulaFault::Surplus { at: word.at }),
-        None => Ok(()),
-    }
+    words
+        .next_part()
+        .map_or(Ok(()), |word| Err(FormulaFault::Surplus { at: word.at }))
 }
 
 impl<'a> Declared<'a> {

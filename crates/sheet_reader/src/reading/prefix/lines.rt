@@ -40,7 +40,7 @@ fn line_keyword(word: Word, watch: Option<usize>) -> Result<Keyword, SheetFault>
     }
 }
 
-/// Question 5 on a name line: whether a formula begins with an operator.
+/// Question 5 on a name line: whether a formula begins with an operator. Looks at a copy of the words.
 fn operator_first(mut words: Words) -> Result<(), FormulaFault>
     ensures { result ≡ ask_operator (parts_left words.entry) (end_of words.entry) }
 {
@@ -225,13 +225,10 @@ impl Plan {
         ensures { told result ≡ finished (length sheet.now) (state_of self) self.watch }
     {
         let watch = self.watch.ok_or(SheetFault::NoWatch { at: sheet.len() })?;
-        match Formula::new(self.width, &self.draft.rows, watch) {
-            Some(formula) => Ok(Sheet {
-                formula,
-                names: self.names,
-            }),
-            None => unreachable(),
-        }
+        Ok(Sheet {
+            formula: Formula::new(self.width, &self.draft.rows, watch).unwrap(),
+            names: self.names,
+        })
     }
 }
 
@@ -243,6 +240,7 @@ fn read_lines(sheet: &[u8]) -> Result<Plan, SheetFault>
 {
     let mut plan = Plan::new();
     let mut lines = Lines::new(sheet);
+    // No `for`, since an item of `Lines` alone does not say that its end fits.
     while let Some(words) = lines.next_words() {
         plan = plan.with_line(sheet, words)?;
     }
@@ -257,7 +255,7 @@ fn allowed(b: u8) -> bool
 }
 
 /// Where the first byte stands that a sheet may not hold.
-fn foreign_byte(sheet: &[u8]) -> Option<usize>
+fn first_foreign(sheet: &[u8]) -> Option<usize>
     ensures { result ≡ position (λ b. not (allowed b)) sheet.now }
 {
     sheet.iter().position(|b| !allowed(*b))
@@ -268,14 +266,11 @@ fn foreign_byte(sheet: &[u8]) -> Option<usize>
 fn check_bytes(sheet: &[u8]) -> Result<(), SheetFault>
     ensures { result ≡ unless (foreign_byte 0 sheet.now) }
 {
-    match foreign_byte(sheet) {
-        Some(at) => Err(SheetFault::ForeignByte { at }),
-        None => Ok(()),
-    }
+    first_foreign(sheet).map_or(Ok(()), |at| Err(SheetFault::ForeignByte { at }))
 }
 
 /// Asks the questions in their order.
-// A function of its own, so that what is promised is shown once, and not at each of these returns.
+// A function of its own: tried in one function twice, and the four goals stay open, one for each return.
 fn asked(sheet: &[u8]) -> Result<Sheet, SheetFault>
     ensures { told result ≡ read_sheet sheet.now }
 {
