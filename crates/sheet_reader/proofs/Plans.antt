@@ -10,7 +10,8 @@ use Rattle.sheet_reader.specs.Grammar.{Written}
 use Rattle.sheet_reader.specs.Names.{named, names_in}
 use Rattle.sheet_reader.specs.Rows.{size, top, made}
 use Rattle.sheet_reader.specs.Sheets.{State, ask_name, ask_nothing, ask_operator, ask_formula, ask_room, with_signal, with_named, with_watch, by_keyword}
-use Rattle.sheet_faults.specs.declared.fault.SheetFault.TheVariants.{TooMany}
+use Rattle.sheet_faults.specs.declared.fault.FormulaFault.{FormulaFault}
+use Rattle.sheet_faults.specs.declared.fault.SheetFault.TheVariants.{Formula, TooMany}
 use Rattle.sheet_reader.specs.declared.reading.Draft.{Draft}
 use Rattle.sheet_reader.specs.declared.reading.Name.{Name}
 use Rattle.sheet_reader.proofs.Ordered.{length_made}
@@ -122,6 +123,13 @@ module _ (sheet : List ℕ) (p : Plan) (first : ℕ) (ws : List Part) (end : ℕ
       let t = f.formula in
       let long = added_count p.draft p.counted f.added in
       sym (name_by sheet st first end ws w xs t e yes asked ∙ no_room first (with_named w t st) (inr (omega arith)))
+
+  -- with words behind the name that are no formula
+  pub name_no : (w : Part) (xs : List Part) {e : ℕ} {f : FormulaFault} → ask_name sheet (names_in p.names) ws end ≡ Ok (w, xs) → e ≡ end → ask_operator xs e ≡ Ok tt → ask_formula sheet (names_in p.names) xs e ≡ Err f → Err (Formula f) ≡ by_keyword sheet (state_of p) first key.Name ws end
+  name_no w xs {f = f} n same o a =
+      let yes = subst (λ e. ask_operator xs e ≡ Ok tt) same o in
+      let no = subst (λ e. ask_formula sheet (names_in p.names) xs e ≡ Err f) same a in
+      rw (n, yes, no) refl
 
   pub watch_full : {n' row : ℕ} {k' : List Row} → Whole sheet (names_in p.names) ws end p.draft.count (kept p.draft) n' k' row → 64 < n' → Err (TooMany first) ≡ by_keyword sheet (state_of p) first key.Watch ws end
   watch_full {n'} f many =

@@ -35,10 +35,7 @@ impl Sheet {
         if row >= self.formula.row_count() {
             return Err(NoSuchRow);
         }
-        let declared = Declared {
-            sheet,
-            names: &self.names,
-        };
+        let declared = Declared::new(sheet, &self.names);
         Ok(label_text(declared.name_of(row), sheet, spare))
     }
 
@@ -48,10 +45,7 @@ impl Sheet {
         ensures below { IfSome result (λ k. k < (reading_of self.now).table.width) }
         ensures few { (reading_of self.now).table.width ≤ 32 }
     {
-        let declared = Declared {
-            sheet,
-            names: &self.names,
-        };
+        let declared = Declared::new(sheet, &self.names);
         match self.formula.row(declared.row_named(word)?) {
             Some(Row::Signal(k)) => Some(k),
             _ => None,

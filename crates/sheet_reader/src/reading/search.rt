@@ -4,7 +4,7 @@ ghost use Rattle.std.specs.List.{find};
 ghost use Rattle.std.specs.Str.{bytes_eq};
 ghost use Rattle.sheet_reader.specs.Names.{names_in, text_of, row_named, name_of, within};
 
-use super::{Declared, Name};
+use super::{Declared, Name, Names};
 use sheet::words::Word;
 use sheet_faults::fault::WordFault;
 
@@ -19,6 +19,13 @@ impl Name {
 }
 
 impl<'a> Declared<'a> {
+    /// A sheet with its names.
+    pub(super) fn new(sheet: &'a [u8], names: &'a Names) -> Declared<'a>
+        ensures { result ≡ record { sheet = sheet.entry; names = names.entry } }
+    {
+        Declared { sheet, names }
+    }
+
     /// The first name with these bytes.
     fn first_named(&self, text: &[u8]) -> Option<Name>
         ensures { result ≡ find (λ n. bytes_eq (text_of self.now.sheet.now n) text.now) (names_in self.now.names.now) }

@@ -1,8 +1,9 @@
 //! The line reader: signal, name and watch lines, and the sheet that they make.
-ghost use Rattle.std.specs.Prelude.{◌≡◌, ◌≤◌, length, Ok, Err, MatchResult, not, position};
+ghost use Rattle.std.specs.Prelude.{◌≡◌, ◌≤◌, ◌<◌, length, Ok, Err, MatchResult, not, position};
 ghost use Rattle.sheet.specs.Cuts.{part_of, parts_left, end_of};
 ghost use Rattle.sheet.specs.Tokens.{token_of};
 ghost use Rattle.sheet.specs.declared.token.Keyword.TheVariants as key;
+ghost use Rattle.sheet_faults.specs.declared.fault.SheetFault.TheVariants.{TooMany};
 ghost use Rattle.sheet_reader.specs.Names.{named, within};
 ghost use Rattle.sheet_reader.specs.Sheets.{start, lines, ask_keyword, name_fault, unless, ask_name, ask_operator, by_words, by_lines, finished, allowed, foreign_byte, read_sheet};
 ghost use Rattle.sheet_reader.specs.States.{state_of, told_plan, by_line};
@@ -95,6 +96,18 @@ impl<'a> Declared<'a> {
     }
 }
 
+impl Draft {
+    /// Question 6 for the rows of a line whose keyword stands at `first`.
+    fn room(&self, first: usize) -> Result<(), SheetFault>
+        ensures { MatchResult result (λ _. self.now.count ≤ 64) (λ f. (64 < self.now.count) × (f ≡ TooMany first)) }
+    {
+        if self.count > ROWS {
+            return Err(SheetFault::TooMany { at: first });
+        }
+        Ok(())
+    }
+}
+
 impl Plan {
     /// A plan that has read nothing.
     fn new() -> Plan
@@ -120,10 +133,7 @@ impl Plan {
             watch,
         } = self;
         let mut words = line.words;
-        let declared = Declared {
-            sheet: line.sheet,
-            names: &names,
-        };
+        let declared = Declared::new(line.sheet, &names);
         let name = declared.new_name(&mut words)?;
         nothing_more(words)?;
         if width >= SIGNALS || draft.count >= ROWS {
@@ -151,16 +161,11 @@ impl Plan {
             watch,
         } = self;
         let mut words = line.words;
-        let declared = Declared {
-            sheet: line.sheet,
-            names: &names,
-        };
+        let declared = Declared::new(line.sheet, &names);
         let name = declared.new_name(&mut words)?;
         operator_first(words)?;
         let row = declared.whole_formula(words, &mut draft)?;
-        if draft.count > ROWS {
-            return Err(SheetFault::TooMany { at: line.first });
-        }
+        draft.room(line.first)?;
         names.push(Name::new(name, row));
         Ok(Plan {
             draft,
@@ -181,14 +186,9 @@ impl Plan {
             width,
             watch: _,
         } = self;
-        let declared = Declared {
-            sheet: line.sheet,
-            names: &names,
-        };
+        let declared = Declared::new(line.sheet, &names);
         let row = declared.whole_formula(line.words, &mut draft)?;
-        if draft.count > ROWS {
-            return Err(SheetFault::TooMany { at: line.first });
-        }
+        draft.room(line.first)?;
         Ok(Plan {
             draft,
             names,
