@@ -126,26 +126,23 @@ impl Plan {
     fn with_signal(self, line: Line) -> Result<Plan, SheetFault>
         ensures { told_plan result ≡ by_line key.Signal line.entry (state_of self) }
     {
-        let Plan {
-            mut draft,
-            mut names,
-            width,
-            watch,
-        } = self;
+        let mut draft = self.draft;
+        let mut names = self.names;
         let mut words = line.words;
         let declared = Declared::new(line.sheet, &names);
         let name = declared.new_name(&mut words)?;
         nothing_more(words)?;
-        if width >= SIGNALS || draft.count >= ROWS {
+        if self.width >= SIGNALS || draft.count >= ROWS {
             return Err(SheetFault::TooMany { at: line.first });
         }
         names.push(Name::new(name, draft.count));
-        draft.push(Row::Signal(width));
+        draft.push(Row::Signal(self.width));
+        // No `..self` in these three: a literal of a struct with ghost fields may not have it.
         Ok(Plan {
             draft,
             names,
-            width: width + 1,
-            watch,
+            width: self.width + 1,
+            watch: self.watch,
         })
     }
 
@@ -154,12 +151,8 @@ impl Plan {
     fn with_name(self, line: Line) -> Result<Plan, SheetFault>
         ensures { told_plan result ≡ by_line key.Name line.entry (state_of self) }
     {
-        let Plan {
-            mut draft,
-            mut names,
-            width,
-            watch,
-        } = self;
+        let mut draft = self.draft;
+        let mut names = self.names;
         let mut words = line.words;
         let declared = Declared::new(line.sheet, &names);
         let name = declared.new_name(&mut words)?;
@@ -170,8 +163,8 @@ impl Plan {
         Ok(Plan {
             draft,
             names,
-            width,
-            watch,
+            width: self.width,
+            watch: self.watch,
         })
     }
 
@@ -180,19 +173,14 @@ impl Plan {
     fn with_watch(self, line: Line) -> Result<Plan, SheetFault>
         ensures { told_plan result ≡ by_line key.Watch line.entry (state_of self) }
     {
-        let Plan {
-            mut draft,
-            names,
-            width,
-            watch: _,
-        } = self;
-        let declared = Declared::new(line.sheet, &names);
+        let mut draft = self.draft;
+        let declared = Declared::new(line.sheet, &self.names);
         let row = declared.whole_formula(line.words, &mut draft)?;
         draft.room(line.first)?;
         Ok(Plan {
             draft,
-            names,
-            width,
+            names: self.names,
+            width: self.width,
             watch: Some(row),
         })
     }
