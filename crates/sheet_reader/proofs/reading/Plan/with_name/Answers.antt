@@ -1,3 +1,4 @@
+-- The check does not find that the names asked are those of the plan where no formula follows, and gives up at its limit on `Sound`.
 use Rattle.std.proofs.Common.{rules, [], ◌∷◌, ◌++◌, sym, ap, ◌∙◌}
 use Rattle.sheet.specs.Cuts.{parts_left, end_of}
 use Rattle.sheet_reader.specs.Names.{names_in}

@@ -1,3 +1,4 @@
+-- The check gives up at its limit on `Sound`: that the names asked are those of the plan is said here.
 use Rattle.std.proofs.Common.{[], ◌∷◌, ◌++◌, sym, refl, ap, ◌∙◌, arith}
 use Rattle.sheet.specs.Cuts.{parts_left, end_of}
 use Rattle.sheet_reader.specs.Names.{names_in}

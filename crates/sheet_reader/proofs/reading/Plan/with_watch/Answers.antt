@@ -1,3 +1,4 @@
+-- The check does not find that the names asked are those of the plan, so that the line is the watch line on its state.
 use Rattle.std.proofs.Common.{rules}
 use Rattle.sheet.specs.Cuts.{parts_left, end_of}
 use Rattle.sheet_reader.proofs.Plans.{watch_full, watch_makes}
