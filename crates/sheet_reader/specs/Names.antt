@@ -4,6 +4,7 @@ use Rattle.std.specs.List.{find}
 use Rattle.std.specs.Str.{bytes_eq}
 use Rattle.arrayvec.specs.ArrayVec.{ArrayVec}
 use Rattle.sheet.specs.Parts.{Part}
+use Rattle.sheet_reader.specs.declared.reading.Declared.{Declared}
 use Rattle.sheet_reader.specs.declared.reading.Name.{Name}
 
 -- the names of a table, in the order of their lines
@@ -22,6 +23,10 @@ text_of sheet n = take n.len (drop n.at sheet)
 abbrev pub row_named : List ℕ → List Name → List ℕ → Option ℕ
 row_named sheet [] t = None
 row_named sheet (n ∷ ns) t = cond (bytes_eq (text_of sheet n) t) (Some n.row) (row_named sheet ns t)
+
+-- what is said of a sheet and the names that it declares
+abbrev pub within {ℓ} : {A : Type ℓ} → (List ℕ → List Name → A) → Declared → A
+within said d = said d.sheet.now (names_in d.names.now)
 
 -- the first declared name of a row
 abbrev pub name_of : List Name → ℕ → Option Name

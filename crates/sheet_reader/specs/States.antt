@@ -1,9 +1,12 @@
 -- What the line reader holds.
 use Rattle.std.specs.Prelude.{Ok, Err, Result}
+use Rattle.sheet.specs.Cuts.{parts_left, end_of}
+use Rattle.sheet.specs.declared.token.Keyword.{Keyword}
 use Rattle.sheet_reader.specs.Drafts.{kept}
 use Rattle.sheet_reader.specs.Names.{names_in}
-use Rattle.sheet_reader.specs.Sheets.{State}
+use Rattle.sheet_reader.specs.Sheets.{State, by_keyword}
 use Rattle.sheet_faults.specs.declared.fault.SheetFault.{SheetFault}
+use Rattle.sheet_reader.specs.declared.reading.Line.{Line}
 use Rattle.sheet_reader.specs.declared.reading.Plan.{Plan}
 
 abbrev pub state_of : Plan → State
@@ -13,3 +16,7 @@ state_of p = record { rows = kept p.draft; names = names_in p.names; width = p.w
 abbrev pub told_plan : Result Plan SheetFault → Result State SheetFault
 told_plan (Ok p) = Ok (state_of p)
 told_plan (Err e) = Err e
+
+-- questions 4 to 6 on a line with this keyword
+abbrev pub by_line : Keyword → Line → State → Result State SheetFault
+by_line k l st = by_keyword l.sheet.now st l.first k (parts_left l.words) (end_of l.words)

@@ -17,6 +17,8 @@ pub mod signals;
 pub use prefix::read;
 
 /// A declared name: its place and its bytes' number in the sheet, and the row that it names.
+// An offset and a length, and no slice: a name outlives the text that was read.
+// `Default`, since an `ArrayVec` fills its free places with it.
 #[derive(Clone, Copy, Default)]
 struct Name {
     at: usize,
@@ -44,6 +46,7 @@ struct Draft {
 }
 
 /// A sheet as read so far: its rows, names and signals, and the watch row once its line is read.
+// A plan goes by value: behind a `&mut` its ghost fields would not hold after an `Err`.
 #[derive(Drop)]
 struct Plan {
     draft: Draft,

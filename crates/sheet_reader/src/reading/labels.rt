@@ -35,11 +35,8 @@ impl Sheet {
         if row >= self.formula.row_count() {
             return Err(NoSuchRow);
         }
-        let names = Declared {
-            sheet,
-            names: &self.names,
-        };
-        Ok(label_text(names.name_of(row), sheet, spare))
+        let declared = Declared::new(sheet, &self.names);
+        Ok(label_text(declared.name_of(row), sheet, spare))
     }
 
     /// The signal that a word names, if it names one, by the sheet that was read.
@@ -48,11 +45,8 @@ impl Sheet {
         ensures below { IfSome result (λ k. k < (reading_of self.now).table.width) }
         ensures few { (reading_of self.now).table.width ≤ 32 }
     {
-        let names = Declared {
-            sheet,
-            names: &self.names,
-        };
-        match self.formula.row(names.row_named(word)?) {
+        let declared = Declared::new(sheet, &self.names);
+        match self.formula.row(declared.row_named(word)?) {
             Some(Row::Signal(k)) => Some(k),
             _ => None,
         }

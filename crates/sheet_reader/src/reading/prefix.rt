@@ -2,7 +2,7 @@
 ghost use Rattle.std.specs.Prelude.{◌≡◌, ◌+◌, ◌*◌, ◌<◌, ◌≤◌, [], ◌∷◌, length, Err, IfOk, OnOk, MatchResult};
 ghost use Rattle.sheet.specs.Cuts.{part_of, parts_left, end_of};
 ghost use Rattle.sheet_reader.specs.Drafts.{kept, Known, line, Got, Bad, Whole};
-ghost use Rattle.sheet_reader.specs.Names.{names_in};
+ghost use Rattle.sheet_reader.specs.Names.{within};
 ghost use Rattle.sheet_reader.specs.Sheets.{ask_nothing, ask_formula};
 
 use super::{Declared, Draft};
@@ -24,25 +24,24 @@ fn wanted_word<'a>(words: &mut Words<'a>) -> Result<Word<'a>, WordFault>
         .ok_or(WordFault::Missing { at: words.end() })
 }
 
-/// Question 5 where a line is complete: no word follows.
+/// Question 5 where a line is complete: no word follows. Looks at a copy of the words.
 fn nothing_more(mut words: Words) -> Result<(), FormulaFault>
     ensures { result ≡ ask_nothing (parts_left words.entry) }
 {
-    match words.next_part() {
-        Some(word) => Err(FormulaFault::Surplus { at: word.at }),
-        None => Ok(()),
-    }
+    words
+        .next_part()
+        .map_or(Ok(()), |word| Err(FormulaFault::Surplus { at: word.at }))
 }
 
 impl<'a> Declared<'a> {
     /// Reads one formula from the front of the words, and tells its row.
     fn formula(&self, words: &mut Words, draft: &mut Draft) -> Result<usize, FormulaFault>
-        requires known { Known self.now.sheet.now (names_in self.now.names.now) draft.old.count }
+        requires known { within Known self.now draft.old.count }
         requires few { draft.old.count + 4 * length (parts_left words.old) ≤ 20000 }
         ensures row { IfOk result (λ row. row < draft.new.count) }
         ensures grows { OnOk result (draft.old.count ≤ draft.new.count) }
         ensures few { OnOk result (draft.new.count + 4 * length (parts_left words.new) ≤ draft.old.count + 4 * length (parts_left words.old)) }
-        ensures formula { MatchResult result (λ row. Got (line self.now.sheet.now (names_in self.now.names.now) words.old) (line self.now.sheet.now (names_in self.now.names.now) words.new) (end_of words.old) draft.old.count (kept draft.old) draft.new.count (kept draft.new) row) (λ f. Bad (line self.now.sheet.now (names_in self.now.names.now) words.old) (end_of words.old) f) }
+        ensures formula { MatchResult result (λ row. Got (within line self.now words.old) (within line self.now words.new) (end_of words.old) draft.old.count (kept draft.old) draft.new.count (kept draft.new) row) (λ f. Bad (within line self.now words.old) (end_of words.old) f) }
         ensures end { end_of words.new ≡ end_of words.old }
     {
         let word = wanted_word(words)?;
@@ -64,10 +63,10 @@ impl<'a> Declared<'a> {
     /// Reads all the words as one formula, and tells its row.
     #[tactic(auto, using(crate::proofs::Counts::few_parts, crate::proofs::Wholes::whole))]
     fn whole_formula(&self, mut words: Words, draft: &mut Draft) -> Result<usize, FormulaFault>
-        requires known { Known self.now.sheet.now (names_in self.now.names.now) draft.old.count }
+        requires known { within Known self.now draft.old.count }
         requires few { draft.old.count ≤ 64 }
         requires short { end_of words ≤ 4096 }
-        ensures { MatchResult result (λ row. Whole self.now.sheet.now (names_in self.now.names.now) (parts_left words.entry) (end_of words.entry) draft.old.count (kept draft.old) draft.new.count (kept draft.new) row) (λ f. ask_formula self.now.sheet.now (names_in self.now.names.now) (parts_left words.entry) (end_of words.entry) ≡ Err f) }
+        ensures { MatchResult result (λ row. within Whole self.now (parts_left words.entry) (end_of words.entry) draft.old.count (kept draft.old) draft.new.count (kept draft.new) row) (λ f. within ask_formula self.now (parts_left words.entry) (end_of words.entry) ≡ Err f) }
     {
         let row = self.formula(&mut words, draft)?;
         nothing_more(words)?;

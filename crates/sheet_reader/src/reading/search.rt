@@ -2,9 +2,9 @@
 ghost use Rattle.std.specs.Prelude.{◌≡◌, Some, None, MatchResult};
 ghost use Rattle.std.specs.List.{find};
 ghost use Rattle.std.specs.Str.{bytes_eq};
-ghost use Rattle.sheet_reader.specs.Names.{names_in, text_of, row_named, name_of};
+ghost use Rattle.sheet_reader.specs.Names.{names_in, text_of, row_named, name_of, within};
 
-use super::{Declared, Name};
+use super::{Declared, Name, Names};
 use sheet::words::Word;
 use sheet_faults::fault::WordFault;
 
@@ -19,6 +19,13 @@ impl Name {
 }
 
 impl<'a> Declared<'a> {
+    /// A sheet with its names.
+    pub(super) fn new(sheet: &'a [u8], names: &'a Names) -> Declared<'a>
+        ensures { result ≡ record { sheet = sheet.entry; names = names.entry } }
+    {
+        Declared { sheet, names }
+    }
+
     /// The first name with these bytes.
     fn first_named(&self, text: &[u8]) -> Option<Name>
         ensures { result ≡ find (λ n. bytes_eq (text_of self.now.sheet.now n) text.now) (names_in self.now.names.now) }
@@ -33,14 +40,14 @@ impl<'a> Declared<'a> {
     /// The row of the first name with these bytes.
     #[tactic(auto, using(crate::proofs::Searches::row_is))]
     pub(super) fn row_named(&self, text: &[u8]) -> Option<usize>
-        ensures { result ≡ row_named self.now.sheet.now (names_in self.now.names.now) text.now }
+        ensures { result ≡ within row_named self.now text.now }
     {
         self.first_named(text).map(|name| name.row)
     }
 
     /// The same where a word has to be such a name.
     pub(super) fn row_of(&self, word: Word) -> Result<usize, WordFault>
-        ensures { MatchResult result (λ row. row_named self.now.sheet.now (names_in self.now.names.now) word.entry.text.now ≡ Some row) (λ f. (row_named self.now.sheet.now (names_in self.now.names.now) word.entry.text.now ≡ None) × (f ≡ WordFault.Unknown word.entry.at)) }
+        ensures { MatchResult result (λ row. within row_named self.now word.entry.text.now ≡ Some row) (λ f. (within row_named self.now word.entry.text.now ≡ None) × (f ≡ WordFault.Unknown word.entry.at)) }
     {
         self.row_named(word.text)
             .ok_or(WordFault::Unknown { at: word.at })

@@ -1,11 +1,12 @@
 //! The line reader: signal, name and watch lines, and the sheet that they make.
-ghost use Rattle.std.specs.Prelude.{◌≡◌, ◌≤◌, length, Ok, Err, MatchResult, not, position};
+ghost use Rattle.std.specs.Prelude.{◌≡◌, ◌≤◌, ◌<◌, length, Ok, Err, MatchResult, not, position};
 ghost use Rattle.sheet.specs.Cuts.{part_of, parts_left, end_of};
 ghost use Rattle.sheet.specs.Tokens.{token_of};
 ghost use Rattle.sheet.specs.declared.token.Keyword.TheVariants as key;
-ghost use Rattle.sheet_reader.specs.Names.{names_in, named};
-ghost use Rattle.sheet_reader.specs.Sheets.{start, lines, ask_keyword, name_fault, unless, ask_name, ask_operator, by_keyword, by_words, by_lines, finished, allowed, foreign_byte, read_sheet};
-ghost use Rattle.sheet_reader.specs.States.{state_of, told_plan};
+ghost use Rattle.sheet_faults.specs.declared.fault.SheetFault.TheVariants.{TooMany};
+ghost use Rattle.sheet_reader.specs.Names.{named, within};
+ghost use Rattle.sheet_reader.specs.Sheets.{start, lines, ask_keyword, name_fault, unless, ask_name, ask_operator, by_words, by_lines, finished, allowed, foreign_byte, read_sheet};
+ghost use Rattle.sheet_reader.specs.States.{state_of, told_plan, by_line};
 ghost use Rattle.sheet_reader.specs.Promises.{Promised};
 ghost use Rattle.sheet_reader.specs.Readings.{told};
 
@@ -40,7 +41,7 @@ fn line_keyword(word: Word, watch: Option<usize>) -> Result<Keyword, SheetFault>
     }
 }
 
-/// Question 5 on a name line: whether a formula begins with an operator.
+/// Question 5 on a name line: whether a formula begins with an operator. Looks at a copy of the words.
 fn operator_first(mut words: Words) -> Result<(), FormulaFault>
     ensures { result ≡ ask_operator (parts_left words.entry) (end_of words.entry) }
 {
@@ -67,7 +68,7 @@ impl Name {
 impl<'a> Declared<'a> {
     /// Question 4 of a second word: whether it may become a name.
     fn fresh(&self, word: Word) -> Result<(), NameFault>
-        ensures { result ≡ unless (name_fault self.now.sheet.now (names_in self.now.names.now) (part_of word.entry)) }
+        ensures { result ≡ unless (within name_fault self.now (part_of word.entry)) }
     {
         let at = word.at;
         if is_reserved(word.text) {
@@ -84,7 +85,7 @@ impl<'a> Declared<'a> {
 
     /// Question 4: the new name that the words begin with.
     fn new_name<'b>(&self, words: &mut Words<'b>) -> Result<Word<'b>, NameFault>
-        ensures name { MatchResult result (λ w. ask_name self.now.sheet.now (names_in self.now.names.now) (parts_left words.old) (end_of words.old) ≡ Ok (part_of w, parts_left words.new)) (λ f. ask_name self.now.sheet.now (names_in self.now.names.now) (parts_left words.old) (end_of words.old) ≡ Err f) }
+        ensures name { MatchResult result (λ w. within ask_name self.now (parts_left words.old) (end_of words.old) ≡ Ok (part_of w, parts_left words.new)) (λ f. within ask_name self.now (parts_left words.old) (end_of words.old) ≡ Err f) }
         ensures end { end_of words.new ≡ end_of words.old }
     {
         let word = words
@@ -92,6 +93,18 @@ impl<'a> Declared<'a> {
             .ok_or(NameFault::Missing { at: words.end() })?;
         self.fresh(word)?;
         Ok(word)
+    }
+}
+
+impl Draft {
+    /// Question 6 for the rows of a line whose keyword stands at `first`.
+    fn room(&self, first: usize) -> Result<(), SheetFault>
+        ensures { MatchResult result (λ _. self.now.count ≤ 64) (λ f. (64 < self.now.count) × (f ≡ TooMany first)) }
+    {
+        if self.count > ROWS {
+            return Err(SheetFault::TooMany { at: first });
+        }
+        Ok(())
     }
 }
 
@@ -111,88 +124,63 @@ impl Plan {
     /// The plan with a signal line.
     #[tactic(auto, using(crate::proofs::Plans::signal_makes))]
     fn with_signal(self, line: Line) -> Result<Plan, SheetFault>
-        ensures { told_plan result ≡ by_keyword line.entry.sheet.now (state_of self) line.entry.first key.Signal (parts_left line.entry.words) (end_of line.entry.words) }
+        ensures { told_plan result ≡ by_line key.Signal line.entry (state_of self) }
     {
-        let Plan {
-            mut draft,
-            mut names,
-            width,
-            watch,
-        } = self;
+        let mut draft = self.draft;
+        let mut names = self.names;
         let mut words = line.words;
-        let declared = Declared {
-            sheet: line.sheet,
-            names: &names,
-        };
+        let declared = Declared::new(line.sheet, &names);
         let name = declared.new_name(&mut words)?;
         nothing_more(words)?;
-        if width >= SIGNALS || draft.count >= ROWS {
+        if self.width >= SIGNALS || draft.count >= ROWS {
             return Err(SheetFault::TooMany { at: line.first });
         }
         names.push(Name::new(name, draft.count));
-        draft.push(Row::Signal(width));
+        draft.push(Row::Signal(self.width));
+        // No `..self` in these three: a literal of a struct with ghost fields may not have it.
         Ok(Plan {
             draft,
             names,
-            width: width + 1,
-            watch,
+            width: self.width + 1,
+            watch: self.watch,
         })
     }
 
     /// The plan with a name line.
     #[tactic(auto, using(crate::proofs::Plans::known_in, crate::proofs::Plans::name_full, crate::proofs::Plans::name_room, crate::proofs::Plans::name_makes))]
     fn with_name(self, line: Line) -> Result<Plan, SheetFault>
-        ensures { told_plan result ≡ by_keyword line.entry.sheet.now (state_of self) line.entry.first key.Name (parts_left line.entry.words) (end_of line.entry.words) }
+        ensures { told_plan result ≡ by_line key.Name line.entry (state_of self) }
     {
-        let Plan {
-            mut draft,
-            mut names,
-            width,
-            watch,
-        } = self;
+        let mut draft = self.draft;
+        let mut names = self.names;
         let mut words = line.words;
-        let declared = Declared {
-            sheet: line.sheet,
-            names: &names,
-        };
+        let declared = Declared::new(line.sheet, &names);
         let name = declared.new_name(&mut words)?;
         operator_first(words)?;
         let row = declared.whole_formula(words, &mut draft)?;
-        if draft.count > ROWS {
-            return Err(SheetFault::TooMany { at: line.first });
-        }
+        draft.room(line.first)?;
         names.push(Name::new(name, row));
         Ok(Plan {
             draft,
             names,
-            width,
-            watch,
+            width: self.width,
+            watch: self.watch,
         })
     }
 
     /// The plan with the watch line.
     #[tactic(auto, using(crate::proofs::Plans::known_in, crate::proofs::Plans::watch_sound))]
     fn with_watch(self, line: Line) -> Result<Plan, SheetFault>
-        ensures { told_plan result ≡ by_keyword line.entry.sheet.now (state_of self) line.entry.first key.Watch (parts_left line.entry.words) (end_of line.entry.words) }
+        ensures { told_plan result ≡ by_line key.Watch line.entry (state_of self) }
     {
-        let Plan {
-            mut draft,
-            names,
-            width,
-            watch: _,
-        } = self;
-        let declared = Declared {
-            sheet: line.sheet,
-            names: &names,
-        };
+        let mut draft = self.draft;
+        let declared = Declared::new(line.sheet, &self.names);
         let row = declared.whole_formula(line.words, &mut draft)?;
-        if draft.count > ROWS {
-            return Err(SheetFault::TooMany { at: line.first });
-        }
+        draft.room(line.first)?;
         Ok(Plan {
             draft,
-            names,
-            width,
+            names: self.names,
+            width: self.width,
             watch: Some(row),
         })
     }
@@ -225,13 +213,10 @@ impl Plan {
         ensures { told result ≡ finished (length sheet.now) (state_of self) self.watch }
     {
         let watch = self.watch.ok_or(SheetFault::NoWatch { at: sheet.len() })?;
-        match Formula::new(self.width, &self.draft.rows, watch) {
-            Some(formula) => Ok(Sheet {
-                formula,
-                names: self.names,
-            }),
-            None => unreachable(),
-        }
+        Ok(Sheet {
+            formula: Formula::new(self.width, &self.draft.rows, watch).unwrap(),
+            names: self.names,
+        })
     }
 }
 
@@ -243,6 +228,7 @@ fn read_lines(sheet: &[u8]) -> Result<Plan, SheetFault>
 {
     let mut plan = Plan::new();
     let mut lines = Lines::new(sheet);
+    // No `for`, since an item of `Lines` alone does not say that its end fits.
     while let Some(words) = lines.next_words() {
         plan = plan.with_line(sheet, words)?;
     }
@@ -257,7 +243,7 @@ fn allowed(b: u8) -> bool
 }
 
 /// Where the first byte stands that a sheet may not hold.
-fn foreign_byte(sheet: &[u8]) -> Option<usize>
+fn first_foreign(sheet: &[u8]) -> Option<usize>
     ensures { result ≡ position (λ b. not (allowed b)) sheet.now }
 {
     sheet.iter().position(|b| !allowed(*b))
@@ -268,14 +254,11 @@ fn foreign_byte(sheet: &[u8]) -> Option<usize>
 fn check_bytes(sheet: &[u8]) -> Result<(), SheetFault>
     ensures { result ≡ unless (foreign_byte 0 sheet.now) }
 {
-    match foreign_byte(sheet) {
-        Some(at) => Err(SheetFault::ForeignByte { at }),
-        None => Ok(()),
-    }
+    first_foreign(sheet).map_or(Ok(()), |at| Err(SheetFault::ForeignByte { at }))
 }
 
 /// Asks the questions in their order.
-// A function of its own, so that what is promised is shown once, and not at each of these returns.
+// A function of its own: tried in one function twice, and the four goals stay open, one for each return.
 fn asked(sheet: &[u8]) -> Result<Sheet, SheetFault>
     ensures { told result ≡ read_sheet sheet.now }
 {

@@ -1,3 +1,4 @@
+-- The check does not find the formula that was read: it is built from those of the operands, each with where its words end.
 use Rattle.std.proofs.Common.{Some, sym, ap, ◌∙◌}
 use Rattle.sheet.specs.Cuts.{end_of}
 use Rattle.sheet.specs.Tokens.{operator}

@@ -1,3 +1,4 @@
+-- The check does not find the step of the loop: the first of the rows that agree is taken from a list that is not known.
 use Rattle.std.proofs.Common.{◌++◌, take, arith}
 use Rattle.sheet_reader.specs.Drafts.{kept}
 use Rattle.sheet_reader.proofs.Drafts.{left_more, left_none, kept_few}
