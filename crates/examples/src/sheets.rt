@@ -15,7 +15,7 @@ const TEXT: &[u8] = b"signal r\nsignal go\nname both and r go\nwatch both";
 // A label's place in the sheet, if it stands there, and its number of bytes.
 fn label_at(sheet: &[u8], row: usize) -> Result<(Option<usize>, usize), Fail> {
     match read(TEXT)?.label(sheet, b"spare", row) {
-        Ok(Label::Sheet { text, at }) => Ok((Some(at), text.len())),
+        Ok(Label::Sheet(word)) => Ok((Some(word.at), word.text.len())),
         Ok(Label::Spare { text }) => Ok((None, text.len())),
         Err(_) => Err(Fail::new("no such row")),
     }

@@ -13,7 +13,7 @@ pub data Text : Type 0 where
   from_spare : List ℕ → Text
 
 abbrev pub shown : Label → Text
-shown (label.Sheet t p) = from_sheet t.now p
+shown (label.Sheet w) = from_sheet w.text.now w.at
 shown (label.Spare t) = from_spare t.now
 
 abbrev pub told_label : Result Label NoSuchRow → Result Text NoSuchRow

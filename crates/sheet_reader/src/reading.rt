@@ -6,7 +6,7 @@ ghost use Rattle.sheet_reader.specs.Sound.{Sound, sound_prop};
 use arrayvec::ArrayVec;
 use ltl::formula::Formula;
 use ltl::row::Row;
-use sheet::words::Words;
+use sheet::words::{Word, Words};
 
 pub mod labels;
 mod prefix;
@@ -73,10 +73,10 @@ pub struct Sheet {
     names: Names,
 }
 
-/// A row's label: its name, which is a part of the sheet and stands at `at`, or the spare text.
+/// A row's label: its name, which is a word of the sheet, or the spare text.
 // No `Result` or `Option`: the spare text is no error, and either case has its text.
 #[derive(Clone, Copy, Debug)]
 pub enum Label<'a> {
-    Sheet { text: &'a [u8], at: usize },
+    Sheet(Word<'a>),
     Spare { text: &'a [u8] },
 }

@@ -18,7 +18,7 @@ fn unfolded(heap: Global, line: &[u8]) -> Result<Vec<u8>, AllocError> {
 /// Writes the label of a row: its name and the name's place, or the spare text.
 fn write_label(out: &mut String, label: Label) -> anyhow::Result<()> {
     let (text, place) = match label {
-        Label::Sheet { text, at } => (text, Some(at)),
+        Label::Sheet(word) => (word.text, Some(word.at)),
         Label::Spare { text } => (text, None),
     };
     for b in text {

@@ -6,6 +6,7 @@ ghost use Rattle.sheet_reader.specs.Signals.{signal_named};
 
 use super::{Declared, Label, Name, Sheet};
 use ltl::row::Row;
+use sheet::words::Word;
 use sheet_faults::fault::NoSuchRow;
 
 /// A name as a label, where the sheet is long enough to have it.
@@ -16,7 +17,7 @@ fn label_text<'a>(name: Option<Name>, sheet: &'a [u8], spare: &'a [u8]) -> Label
         return Label::Spare { text: spare };
     };
     match sheet.get(name.at..).and_then(|rest| rest.get(..name.len)) {
-        Some(text) => Label::Sheet { text, at: name.at },
+        Some(text) => Label::Sheet(Word { text, at: name.at }),
         None => Label::Spare { text: spare },
     }
 }
