@@ -6,7 +6,7 @@ use crate::recording::{Recorder, Recording};
 use ltl::step::Step;
 
 /// The most steps of any recording.
-const LIMIT: usize = 4096;
+pub const LIMIT: usize = 4096;
 
 /// Keeps the step at position i in word i - 1, signal k as the bit worth 2^k.
 #[derive(Drop)]
