@@ -1,5 +1,5 @@
 -- The tree of a row is made from the trees of its operands.
-use Rattle.std.proofs.Common.{◌≡◌, ℕ, zero, suc, ◌+◌, ◌<◌, ◌≤◌, cond, leb, ◌⊎◌, List, [], ◌∷◌, ◌++◌, length, get_or, sym, refl, ap, ◌∙◌, subst, inl, inr, ⊎_elim, add-one, arith}
+use Rattle.std.proofs.Common.{◌≡◌, ℕ, zero, suc, ◌+◌, ◌<◌, cond, leb, List, [], ◌∷◌, ◌++◌, length, get_or, sym, refl, ap, ◌∙◌, subst, ⊎_elim, add-one, arith}
 use Rattle.std.proofs.lemmas.Bool.{le-leb, lt-leb, cases_lt, cond-true, cond-false}
 use Rattle.std.proofs.lemmas.List.{get_or_append_left, get_or_push, length_push}
 use Rattle.scales.specs.Scales.{Ops, meet}
@@ -10,9 +10,6 @@ use Rattle.ltl.specs.declared.row.Row.{Row}
 use Rattle.ltl.specs.declared.row.Row.TheVariants.{Signal, Not, Or, Next, Until, Eventually}
 use Rattle.ltl.proofs.Back.{eventually_in, eventually_past, until_in, until_past}
 use Rattle.ltl.proofs.Unfold.{next_at}
-
-pub cases_le : (m n : ℕ) → (m ≤ n) ⊎ (n < m)
-cases_le m n = ⊎_elim (λ h. inr h) (λ h. inl h) (cases_lt n m)
 
 -- a tree that is made stays
 kept : (ts : List Tree) (xs : List Row) (k : ℕ) → k < length ts → tree_at (trees_after ts xs) k ≡ tree_at ts k
@@ -54,7 +51,7 @@ made width rows r h u =
     rw z at (made_after width [] rows r h (rw z u))
 
 -- the value of row r of a table at position i
-abbrev pub row_value : {V : Type 0} → Ops V → List ℕ → List Row → ℕ → ℕ → V
+abbrev row_value : {V : Type 0} → Ops V → List ℕ → List Row → ℕ → ℕ → V
 row_value o steps rows r i = value o steps (tree_at (trees rows) r) i
 
 -- later of the row itself, or open after the end
@@ -75,16 +72,16 @@ module _ {V : Type 0} (o : Ops V) (steps : List ℕ) where
   eventually_rest : (a : Tree) (i : ℕ) → value o steps (eventually a) i ≡ o.join (value o steps a i) (rest o (length steps) (value o steps (eventually a)) i)
   eventually_rest a i =
       ⊎_elim
-      (λ h. rw add-one (eventually_in o steps a i h) ∙ ap (o.join (value o steps a i)) (sym (cond-true (leb i (length steps)) _ _ (le-leb i (length steps) h))))
       (λ h. eventually_past o steps a i h ∙ ap (o.join (value o steps a i)) (sym (cond-false (leb i (length steps)) _ _ (lt-leb i (length steps) h))))
-      (cases_le i (length steps))
+      (λ h. rw add-one (eventually_in o steps a i h) ∙ ap (o.join (value o steps a i)) (sym (cond-true (leb i (length steps)) _ _ (le-leb i (length steps) h))))
+      (cases_lt (length steps) i)
 
   until_rest : (a b : Tree) (i : ℕ) → value o steps (until a b) i ≡ o.join (value o steps b i) (meet o (value o steps a i) (rest o (length steps) (value o steps (until a b)) i))
   until_rest a b i =
       ⊎_elim
-      (λ h. rw add-one (until_in o steps a b i h) ∙ ap (λ x. o.join (value o steps b i) (meet o (value o steps a i) x)) (sym (cond-true (leb i (length steps)) _ _ (le-leb i (length steps) h))))
       (λ h. until_past o steps a b i h ∙ ap (λ x. o.join (value o steps b i) (meet o (value o steps a i) x)) (sym (cond-false (leb i (length steps)) _ _ (lt-leb i (length steps) h))))
-      (cases_le i (length steps))
+      (λ h. rw add-one (until_in o steps a b i h) ∙ ap (λ x. o.join (value o steps b i) (meet o (value o steps a i) x)) (sym (cond-true (leb i (length steps)) _ _ (le-leb i (length steps) h))))
+      (cases_lt (length steps) i)
 
 module _ {V : Type 0} (o : Ops V) (steps : List ℕ) (rows : List Row) (r : ℕ) where
   by_row : (x : Row) (i : ℕ) → tree_at (trees rows) r ≡ tree_of (trees rows) x → row_value o steps rows r i ≡ unrolled o steps (row_value o steps rows) r x i

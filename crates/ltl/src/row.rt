@@ -31,7 +31,7 @@ impl Row {
     }
 }
 
-/// Signal 0.
+/// Signal 0: an `ArrayVec` fills its free places with it.
 impl Default for Row {
     ghost is_default = { λ row. row ≡ Signal 0 };
 

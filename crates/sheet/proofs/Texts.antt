@@ -1,5 +1,8 @@
 -- A part of some bytes holds the bytes at its offset.
-use Rattle.std.proofs.Common.{◌≡◌, ℕ, suc, ◌+◌, ◌≤◌, Bool, true, false, cond, eqb, List, [], ◌∷◌, ◌++◌, length, take, drop, sym, refl, ap, arith, length-take-le}
+use Rattle.std.proofs.Common.{◌≡◌, ℕ, suc, ◌+◌, ◌≤◌, Bool, true, false, cond, eqb, List, [], ◌∷◌, ◌++◌, length, take, drop, sym, ap, arith, length-take-le}
+use Rattle.std.specs.Prelude.{not, ◌==◌}
+use Rattle.std.proofs.lemmas.List.Sums.{prefix_len-le-length}
+use Rattle.sheet.proofs.Scans.{run_prefix}
 use Rattle.sheet.specs.Parts.{Part, part, run, parts_in, parts}
 
 -- the part lies k bytes into bytes that begin at p
@@ -21,13 +24,8 @@ all_further : (p b : ℕ) (bs : List ℕ) (ws : List Part) → Each (Inside (suc
 all_further p b bs [] e = tt
 all_further p b bs (w ∷ ws) e = (further p b bs w e.0, all_further p b bs ws e.1)
 
-run_at : (sep b : ℕ) (bs : List ℕ) (t : Bool) → eqb b sep ≡ t → run sep bs ≤ length bs → run sep (b ∷ bs) ≤ length (b ∷ bs)
-run_at sep b bs true e h = rw e (omega arith)
-run_at sep b bs false e h = rw e (omega arith)
-
 pub run_within : (sep : ℕ) (bs : List ℕ) → run sep bs ≤ length bs
-run_within sep [] = omega arith
-run_within sep (b ∷ bs) = run_at sep b bs (eqb b sep) refl (run_within sep bs)
+run_within sep bs = omega (arith, run_prefix sep bs, prefix_len-le-length (λ b. not (b == sep)) bs)
 
 here : (sep p : ℕ) (bs : List ℕ) → Inside p bs (part (take (run sep bs) bs) p)
 here sep p bs =

@@ -63,6 +63,7 @@ pub struct NoSuchRow;
 
 impl WordFault {
     /// The question answered no and its place.
+    // Beside `NameFault`: the two share only the value, written in its parts, and a function of a question and a place is no plainer.
     pub fn refusal(self) -> Refusal
         ensures { result ≡ word_refusal self }
     {
@@ -93,6 +94,7 @@ impl FormulaFault {
 
 impl NameFault {
     /// The question answered no and its place.
+    // Beside `WordFault`, for the reason that stands there.
     pub fn refusal(self) -> Refusal
         ensures { result ≡ name_refusal self }
     {
@@ -129,6 +131,7 @@ impl SheetFault {
 
 impl NoSuchRow {
     /// The question answered no and its place.
+    // Beside the faults of other crates that have one question: what they share is this value, written in its parts, and a function of it is no plainer.
     pub fn refusal(self) -> Refusal
         ensures { result ≡ row_refusal }
     {

@@ -11,7 +11,7 @@ use Rattle.ltl.specs.declared.row.Row.TheVariants.{Signal, Not, Or, Next, Until,
 use Rattle.values.specs.Tables.{meaning, HasCell, cell_of, Stands}
 use Rattle.values.specs.declared.grid.Grid.{Grid}
 use Rattle.values.proofs.Places.{seen}
-use Rattle.ltl.proofs.Trees.{rest, cases_le, row_law, unrolled}
+use Rattle.ltl.proofs.Trees.{rest, row_law, unrolled}
 use Rattle.ltl.proofs.Unfold.{after_same}
 
 module _ {V : Type 0} (o : Ops V) (steps : List ℕ) (f : Formula) (grid : Grid V) (r i : ℕ) (has : HasCell grid r i) (stands : Stands o steps f grid i r) where
@@ -36,9 +36,9 @@ module _ {V : Type 0} (o : Ops V) (steps : List ℕ) (f : Formula) (grid : Grid 
   look_ahead : cond (leb i (length steps)) (o.later (cell_of grid r (i + 1) o.no)) o.«open» ≡ rest o (length steps) (meaning o steps f r) i
   look_ahead =
       ⊎_elim
-      (λ l. let t = le-leb i (length steps) l in rw t (ap o.later (stands.held.after r (i + 1) (omega arith) (omega arith) (omega arith))))
       (λ l. let t = lt-leb i (length steps) l in rw t)
-      (cases_le i (length steps))
+      (λ l. let t = le-leb i (length steps) l in rw t (ap o.later (stands.held.after r (i + 1) (omega arith) (omega arith) (omega arith))))
+      (cases_lt (length steps) i)
 
   module _ (row : Row) (row_is : row ≡ get_or (rows_of f) r (Signal 0)) where
     within : r < length (rows_of f)
@@ -75,3 +75,6 @@ module _ {V : Type 0} (o : Ops V) (steps : List ℕ) (f : Formula) (grid : Grid 
 
     pub of_eventually : (a : ℕ) (x z v : V) → row ≡ Eventually a → x ≡ cell_of grid a i x → z ≡ cond (leb i (length steps)) (o.later (cell_of grid r (i + 1) o.no)) o.«open» → v ≡ o.join x z → v ≡ meaning o steps f r i
     of_eventually a x z v e p n q = q ∙ rw (look a x (fitting (Eventually a) e) p, n ∙ look_ahead) (sym (by_operands (Eventually a) e))
+
+-- a row from those of its operands
+pub ruleset of_row = (of_signal, of_not, of_or, of_next, of_until, of_eventually)

@@ -12,6 +12,7 @@ pub struct GridTooSmall;
 
 impl GridTooSmall {
     /// The question answered no, and its place.
+    // Beside the faults of other crates that have one question: what they share is this value, written in its parts, and a function of it is no plainer.
     pub fn refusal(self) -> Refusal
         ensures { result ≡ grid_refusal }
     {

@@ -7,6 +7,7 @@ pub mod columns;
 
 /// So many rows of so many positions. Row r at position i, counted from 1, is cell
 /// r x positions + i - 1. Rows and positions that the memory does not hold have no cells.
+// A slice with two numbers, and no vector of rows: the caller hands in the memory.
 #[derive(Drop)]
 pub struct Grid<'a, T> {
     cells: &'a mut [T],
@@ -43,6 +44,7 @@ impl<'a, T: Copy> Grid<'a, T> {
     pub fn get(&self, r: usize, i: usize) -> Option<T>
         ensures { MatchOption result (¬ HasCell self.now r i) (λ x. HasCell self.now r i × (x ≡ cell_of self.now r i x)) }
     {
+        // An `if`, and no `then`: with that the check does not find the proof.
         if self.has(r, i) {
             Some(self.at(r, i))
         } else {

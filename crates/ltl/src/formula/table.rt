@@ -21,10 +21,10 @@ impl Formula {
     pub fn new(width: u8, rows: &[Row], watch: usize) -> Option<Formula>
         ensures { MatchOption result (¬ WellFormed (table_from width rows.now watch)) (λ f. (table f ≡ table_from width rows.now watch) × WellFormed (table f)) }
     {
-        if !(1..=32).contains(&width) || watch >= rows.len() || !all_fit(rows, width) {
+        let rows = ArrayVec::try_from(rows).ok()?;
+        if !(1..=32).contains(&width) || watch >= rows.len() || !all_fit(rows.as_slice(), width) {
             return None;
         }
-        let rows = ArrayVec::try_from(rows).ok()?;
         Some(Formula { width, rows, watch })
     }
 

@@ -12,6 +12,7 @@ impl fmt::Display for Step {
     fn fmt<W: fmt::Write>(&self, f: &mut fmt::Formatter<W>) -> fmt::Result {
         f.write_str("{")?;
         let mut before = "";
+        // A range, and no `filter` of it: tried, and in a function with a type parameter the check can state no invariant of a loop over a closure.
         for k in 0..64 {
             if !self.has(k) {
                 continue;

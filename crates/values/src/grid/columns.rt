@@ -49,6 +49,7 @@ impl<'f, 'r, R: Recording> Evaluation<'f, 'r, R> {
     }
 
     /// The value of this row, which is row r, at position i, where the rows below it there, and all rows after there, stand in the grid.
+    #[tactic(auto, using(crate::proofs::Cells::of_row))]
     fn cell<S: Scale>(&self, grid: &Grid<S>, step: Step, row: Row, r: usize, i: usize) -> S
         requires row { row ≡ slice_index_or (rows_of self.now.formula.now) r (Signal 0) }
         requires inside { HasCell grid.now r i }
@@ -95,6 +96,7 @@ impl<'f, 'r, R: Recording> Evaluation<'f, 'r, R> {
         ensures cells { Filled S.ops S.atleast (R.width self.now.recording.now) (R.steps self.now.recording.now) self.now.formula.now grid.old.cells.now grid.new.cells.now }
         ensures memory { grid.new.cells.ghost_name ≡ grid.old.cells.ghost_name }
     {
+        // A range, since `i` is the position, and the columns are filled backward.
         for i in (1..=grid.positions).rev() {
             self.column(grid, i);
         }

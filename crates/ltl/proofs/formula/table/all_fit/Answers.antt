@@ -1,3 +1,4 @@
+-- Not found alone: that the item of `enumerate` at place r is r and row r, so that all of them fit, or one does not.
 use Rattle.std.proofs.Common.{◌≡◌, ℕ, ◌<◌, Bool, true, false, List, length, get_or, MatchBool, ◌∙◌, zero-add, arith, rules}
 use Rattle.std.specs.List.{AllWithin, HoldsAt, enumerate_from}
 use Rattle.std.proofs.lemmas.Iterator.{cases_from_all, YieldsList-from_slice}

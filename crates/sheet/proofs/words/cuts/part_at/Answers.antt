@@ -1,3 +1,4 @@
+-- Not found alone: that the gap and the run cut off the first part, and that what follows is cut as before.
 use Rattle.std.proofs.Common.{◌≡◌, ℕ, ◌+◌, ◌-◌, ◌≤◌, length, drop, ◌∙◌, arith, length-drop, length-take-le}
 use Rattle.std.proofs.lemmas.List.{take_rest}
 use Rattle.sheet.specs.Parts.{run}

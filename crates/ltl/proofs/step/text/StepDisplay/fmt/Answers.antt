@@ -1,3 +1,4 @@
+-- Not found alone: that the signal just written, with the comma before it, is the next of the step's signals.
 use Rattle.std.proofs.Common.{true, sym, refl, rules}
 use Rattle.ltl.proofs.Signals.{shown_present}
 use Rattle.ltl.proofs.step.text.StepDisplay.fmt.Goals as goal

@@ -1,3 +1,4 @@
+-- Not found alone: that the cell just written is one row more of the column, and that the others stay.
 use Rattle.std.proofs.Common.{length, ap, arith}
 use Rattle.values.proofs.Columns.{frame_trans, frame_stored, stands_stored, column_has}
 use Rattle.values.proofs.grid.columns.Evaluation.column.Goals as goal
