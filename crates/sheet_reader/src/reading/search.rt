@@ -27,6 +27,7 @@ impl<'a> Declared<'a> {
     }
 
     /// The first name with these bytes.
+    // `copied` first, here and in `name_of`: with `find` over references the check does not find the proof.
     fn first_named(&self, text: &[u8]) -> Option<Name>
         ensures { result ≡ find (λ n. bytes_eq (text_of self.now.sheet.now n) text.now) (names_in self.now.names.now) }
     {
