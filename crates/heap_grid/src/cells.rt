@@ -15,6 +15,7 @@ use std::alloc::{AllocError, Global};
 use values::grid::columns::evaluate;
 
 /// The value of every row at every position from 1 to n + 1, and no other cells.
+// Formula and recording stay two parameters, as at `evaluate`.
 pub fn filled<S: Scale, R: Recording>(
     heap: Global,
     formula: &Formula,

@@ -11,6 +11,7 @@ use std::error::Error;
 use std::fmt;
 
 /// Where an input's sheet ends, and where the lines that tell steps begin.
+// Offsets and no slices: they are what `split_input` promises and its tests ask.
 #[derive(Clone, Copy, Debug)]
 pub struct Split {
     pub sheet: usize,

@@ -60,6 +60,7 @@ fn shown_line(heap: Global, text: &[u8], place: usize) -> anyhow::Result<String>
 
 /// Tells a refusal on standard output by number and place, and on standard error in words, with the line of the text in
 /// which this place lies.
+// The runtime and a text stay two parameters, here and below: the runtime is passed to whatever prints.
 fn tell<D: Display>(
     rt: &HostRuntime,
     refusal: Refusal,

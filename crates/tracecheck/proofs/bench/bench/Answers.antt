@@ -1,3 +1,4 @@
+-- The check does not compute the tree of these rows.
 use Rattle.std.proofs.Common.{ap}
 use Rattle.ltl.specs.Tables.{Table}
 use Rattle.ltl.specs.Trees.{trees, trees_after, tree_at}
