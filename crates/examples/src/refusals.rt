@@ -2,7 +2,7 @@
 use ltl::refusal::{Part, Refusal};
 
 /// A refusal's number, part and place.
-pub fn told(refusal: Refusal) -> (u8, Part, usize) {
+pub(crate) fn told(refusal: Refusal) -> (u8, Part, usize) {
     (
         refusal.question.number(),
         refusal.question.part(),
