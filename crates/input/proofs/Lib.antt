@@ -1,4 +1,3 @@
 pub mod Named
-mod Splits
 mod Around
 mod Taken

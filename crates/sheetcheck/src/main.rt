@@ -3,12 +3,13 @@
 
 use anyhow::anyhow;
 use heap_grid::cells::judged;
+use heap_grid::opening::opened;
 use input::lines::split_input;
 use input::places::line_around;
 use input::steps::{StepFault, record_lines};
 use ltl::formula::Formula;
 use ltl::refusal::Refusal;
-use recorder::plain::{LIMIT, PlainRecorder};
+use recorder::plain::LIMIT;
 use recorder::recording::Recording;
 use scales::pair::Pair;
 use scales::truth::Truth;
@@ -116,6 +117,7 @@ fn table(
 }
 
 /// Prints the table of the watch row over a recording, and tells on standard error what was judged.
+// Formula and recording stay two parameters, as at `evaluate`.
 fn report<R: Recording>(
     rt: &HostRuntime,
     formula: &Formula,
@@ -137,11 +139,7 @@ fn report<R: Recording>(
 fn judge_steps(rt: &HostRuntime, signals: SheetSignals, lines: &[u8]) -> anyhow::Result<ExitCode> {
     let formula = &signals.sheet.formula;
     let mut words = vec![in rt.alloc(); 0u32; LIMIT]?;
-    // Not `map_err(..)?`: the error holds the words that were handed in, and no proof is made of a closure over it.
-    let mut recorder = match PlainRecorder::open(formula.width(), words.as_mut_slice()) {
-        Ok(recorder) => recorder,
-        Err(refused) => return Err(refused.fault.into()),
-    };
+    let mut recorder = opened(formula.width(), words.as_mut_slice())?;
     match record_lines(&mut recorder, &signals, lines) {
         Ok(()) => report(rt, formula, &recorder),
         Err(fault) => refused_steps(rt, lines, fault),
@@ -194,7 +192,7 @@ fn run(rt: &HostRuntime) -> anyhow::Result<ExitCode> {
     }
 }
 
-// Beside that of `tracecheck`, which differs in the name: a shared one would take the runtime, the name and the outcome.
+// Beside that of `tracecheck`: a shared one would take the runtime, the name and the outcome.
 fn main(rt: HostRuntime) -> ExitCode {
     match run(&rt) {
         Ok(code) => code,

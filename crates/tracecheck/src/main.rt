@@ -7,8 +7,9 @@ mod signals;
 use anyhow::anyhow;
 use bench::bench;
 use heap_grid::cells::judged;
+use heap_grid::opening::opened;
 use ltl::formula::Formula;
-use recorder::plain::{LIMIT, PlainRecorder};
+use recorder::plain::LIMIT;
 use recorder::recording::{Recorder, Recording};
 use scales::pair::Pair;
 use scales::truth::Truth;
@@ -75,6 +76,7 @@ fn rows_at(
 }
 
 /// The whole report on a formula over a recording.
+// Formula and recording stay two parameters, as at `evaluate`.
 fn report<R: Recording>(heap: Global, formula: &Formula, recording: &R) -> anyhow::Result<String> {
     let n = recording.len();
     let mut cells = judged(heap, formula, recording)?;
@@ -104,18 +106,14 @@ fn run(rt: &HostRuntime) -> anyhow::Result<()> {
     let heap = rt.alloc();
     let formula = bench();
     let mut words = vec![in heap; 0u32; LIMIT]?;
-    // Not `map_err(..)?`: the error holds the words that were handed in, and no proof is made of a closure over it.
-    let mut recorder = match PlainRecorder::open(formula.width(), words.as_mut_slice()) {
-        Ok(recorder) => recorder,
-        Err(refused) => return Err(refused.fault.into()),
-    };
+    let mut recorder = opened(formula.width(), words.as_mut_slice())?;
     record_lines(rt, &mut recorder)?;
     let text = report(heap, &formula, &recorder)?;
     rt.print(text.as_str())?;
     Ok(())
 }
 
-// Beside that of `sheetcheck`, which differs in the name: a shared one would take the runtime, the name and the outcome.
+// Beside that of `sheetcheck`: a shared one would take the runtime, the name and the outcome.
 fn main(rt: HostRuntime) -> ExitCode {
     match run(&rt) {
         Ok(()) => ExitCode::SUCCESS,
