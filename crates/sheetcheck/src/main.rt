@@ -3,13 +3,12 @@
 
 use anyhow::anyhow;
 use heap_grid::cells::judged;
-use heap_grid::opening::opened;
 use input::lines::split_input;
 use input::places::line_around;
 use input::steps::{StepFault, record_lines};
 use ltl::formula::Formula;
 use ltl::refusal::Refusal;
-use recorder::plain::LIMIT;
+use recorder::plain::{LIMIT, PlainRecorder};
 use recorder::recording::Recording;
 use scales::pair::Pair;
 use scales::truth::Truth;
@@ -139,7 +138,11 @@ fn report<R: Recording>(
 fn judge_steps(rt: &HostRuntime, signals: SheetSignals, lines: &[u8]) -> anyhow::Result<ExitCode> {
     let formula = &signals.sheet.formula;
     let mut words = vec![in rt.alloc(); 0u32; LIMIT]?;
-    let mut recorder = opened(formula.width(), words.as_mut_slice())?;
+    // Not `map_err(..)?`: the error holds the words that were handed in, and no proof is made of a closure over it.
+    let mut recorder = match PlainRecorder::open(formula.width(), words.as_mut_slice()) {
+        Ok(recorder) => recorder,
+        Err(refused) => return Err(refused.fault.into()),
+    };
     match record_lines(&mut recorder, &signals, lines) {
         Ok(()) => report(rt, formula, &recorder),
         Err(fault) => refused_steps(rt, lines, fault),

@@ -7,9 +7,8 @@ mod signals;
 use anyhow::anyhow;
 use bench::bench;
 use heap_grid::cells::judged;
-use heap_grid::opening::opened;
 use ltl::formula::Formula;
-use recorder::plain::LIMIT;
+use recorder::plain::{LIMIT, PlainRecorder};
 use recorder::recording::{Recorder, Recording};
 use scales::pair::Pair;
 use scales::truth::Truth;
@@ -106,7 +105,11 @@ fn run(rt: &HostRuntime) -> anyhow::Result<()> {
     let heap = rt.alloc();
     let formula = bench();
     let mut words = vec![in heap; 0u32; LIMIT]?;
-    let mut recorder = opened(formula.width(), words.as_mut_slice())?;
+    // Not `map_err(..)?`: the error holds the words that were handed in, and no proof is made of a closure over it.
+    let mut recorder = match PlainRecorder::open(formula.width(), words.as_mut_slice()) {
+        Ok(recorder) => recorder,
+        Err(refused) => return Err(refused.fault.into()),
+    };
     record_lines(rt, &mut recorder)?;
     let text = report(heap, &formula, &recorder)?;
     rt.print(text.as_str())?;
