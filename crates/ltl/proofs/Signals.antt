@@ -6,7 +6,7 @@ use Rattle.std.specs.declared.fmt.Formatter.{Formatter}
 use Rattle.ltl.specs.Steps.{has}
 use Rattle.ltl.specs.Shown.{signals_from, commas, after_others}
 
-none_left : (n k step : ℕ) → n ≤ k → signals_from (n - k) k step ≡ []
+pub none_left : (n k step : ℕ) → n ≤ k → signals_from (n - k) k step ≡ []
 unfolding signals_from
 none_left n k step h = let z : n - k ≡ 0 = omega arith in rw z
 
@@ -14,10 +14,10 @@ more : (m n k step : ℕ) → m ≡ suc n → signals_from m k step ≡ cond (ha
 unfolding signals_from
 more m n k step e = rw e
 
-with_first : (n k step : ℕ) → k < n → has step k ≡ true → signals_from (n - k) k step ≡ k ∷ signals_from (n - (k + 1)) (k + 1) step
+pub with_first : (n k step : ℕ) → k < n → has step k ≡ true → signals_from (n - k) k step ≡ k ∷ signals_from (n - (k + 1)) (k + 1) step
 with_first n k step h e = rw add-one (more (n - k) (n - suc k) k step (omega arith) ∙ rw e)
 
-without_first : (n k step : ℕ) → k < n → has step k ≡ false → signals_from (n - k) k step ≡ signals_from (n - (k + 1)) (k + 1) step
+pub without_first : (n k step : ℕ) → k < n → has step k ≡ false → signals_from (n - k) k step ≡ signals_from (n - (k + 1)) (k + 1) step
 without_first n k step h e = rw add-one (more (n - k) (n - suc k) k step (omega arith) ∙ rw e)
 
 -- numbers, the first behind a text and each other behind a comma

@@ -177,7 +177,7 @@ half : (b : Bool) (x : ℕ) → (cond b 1 0 + 2 * x) / 2 ^ 1 ≡ x
 half true x = omega arith
 half false x = omega arith
 
-has_step_of : (n : ℕ) (test : ℕ → Bool) (k : ℕ) → k < n → has (step_of n test) k ≡ test k
+pub has_step_of : (n : ℕ) (test : ℕ → Bool) (k : ℕ) → k < n → has (step_of n test) k ≡ test k
 unfolding step_of
 has_step_of zero test k h = absurd (omega arith)
 has_step_of (suc n) test zero h = low_bit (test 0) (step_of n (λ k. test (suc k)))
@@ -192,7 +192,7 @@ bit_low : (b : Bool) → cond b 1 0 ≤ 1
 bit_low true = omega arith
 bit_low false = omega arith
 
-step_of_below : (n : ℕ) (test : ℕ → Bool) → step_of n test < 2 ^ n
+pub step_of_below : (n : ℕ) (test : ℕ → Bool) → step_of n test < 2 ^ n
 unfolding step_of
 step_of_below zero test = omega arith
 step_of_below (suc n) test =
@@ -200,7 +200,7 @@ step_of_below (suc n) test =
     rw (e, pow-add 2 1 n) (omega (arith, step_of_below n (λ k. test (suc k)), bit_low (test 0)))
 
 -- the test tells paths
-reached : (t : Tree) (p : Side) (k : ℕ) → reaches t p k ≡ true → Reaches t p k
+pub reached : (t : Tree) (p : Side) (k : ℕ) → reaches t p k ≡ true → Reaches t p k
 reached (signal j) upright k e = eqb-true j k e
 reached (signal j) turned k e = true≢false (sym e)
 reached (not a) p k e = reached a (other p) k e
@@ -209,7 +209,7 @@ reached (next a) p k e = reached a p k e
 reached (until a b) p k e = ⊎_elim (λ h. inl (reached a p k h)) (λ h. inr (reached b p k h)) (or_cases (reaches a p k) (reaches b p k) e)
 reached (eventually a) p k e = reached a p k e
 
-reaching : (t : Tree) (p : Side) (k : ℕ) → Reaches t p k → reaches t p k ≡ true
+pub reaching : (t : Tree) (p : Side) (k : ℕ) → Reaches t p k → reaches t p k ≡ true
 reaching (signal j) upright k e = eq-eqb j k e
 reaching (signal j) turned k e = absurd e
 reaching (not a) p k e = reaching a (other p) k e

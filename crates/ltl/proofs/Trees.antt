@@ -51,7 +51,7 @@ made width rows r h u =
     rw z at (made_after width [] rows r h (rw z u))
 
 -- the value of row r of a table at position i
-abbrev row_value : {V : Type 0} → Ops V → List ℕ → List Row → ℕ → ℕ → V
+abbrev pub row_value : {V : Type 0} → Ops V → List ℕ → List Row → ℕ → ℕ → V
 row_value o steps rows r i = value o steps (tree_at (trees rows) r) i
 
 -- later of the row itself, or open after the end

@@ -1,9 +1,11 @@
--- The number and the part of each question.
+-- The number and the part of each question, and a refusal by these.
 use Rattle.std.specs.Prelude.{ℕ}
 use Rattle.ltl.specs.declared.refusal.Part.{Part}
 use Rattle.ltl.specs.declared.refusal.Part.TheVariants.{Sheet, Recording, Watch}
+use Rattle.ltl.specs.declared.refusal.NumberedRefusal.{NumberedRefusal}
 use Rattle.ltl.specs.declared.refusal.Question.{Question}
 use Rattle.ltl.specs.declared.refusal.Question.TheVariants.{SheetLength, SheetBytes, FirstWord, NewName, OneFormula, SheetRows, WatchLine, SignalsBelowWidth, StepRoom, Opening, RowNumber, GridCells}
+use Rattle.ltl.specs.declared.refusal.Refusal.{Refusal}
 
 abbrev pub number_of : Question → ℕ
 number_of SheetLength = 1
@@ -32,3 +34,6 @@ part_of StepRoom = Recording
 part_of Opening = Recording
 part_of RowNumber = Watch
 part_of GridCells = Watch
+
+abbrev pub numbered : Refusal → NumberedRefusal
+numbered r = record { number = number_of r.question; part = part_of r.question; place = r.place }

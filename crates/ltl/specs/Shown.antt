@@ -8,8 +8,9 @@ use Rattle.ltl.specs.declared.refusal.Part.{Part}
 use Rattle.ltl.specs.declared.refusal.Part.TheVariants.{Sheet, Recording, Patch, Watch}
 use Rattle.ltl.specs.declared.refusal.Question.{Question}
 use Rattle.ltl.specs.declared.refusal.Question.TheVariants.{SheetLength, SheetBytes, FirstWord, NewName, OneFormula, SheetRows, WatchLine, SignalsBelowWidth, StepRoom, Opening, RowNumber, GridCells}
+use Rattle.ltl.specs.declared.refusal.NumberedRefusal.{NumberedRefusal}
 use Rattle.ltl.specs.declared.refusal.Refusal.{Refusal}
-use Rattle.ltl.specs.Questions.{number_of, part_of}
+use Rattle.ltl.specs.Questions.{numbered}
 
 -- the signals of a step among the n numbers from k on, in rising order
 unfoldable pub signals_from : ℕ → ℕ → ℕ → List ℕ
@@ -60,6 +61,9 @@ shown_question RowNumber = codes "Is the row below R?"
 shown_question GridCells = codes "Has each grid at least R x (n + 1) cells?"
 
 -- question 9 (recording), place 0
+abbrev pub shown_numbered : NumberedRefusal → List ℕ
+shown_numbered r =
+    codes "question " ++ (decimal r.number ++ (codes " (" ++ (shown_part r.part ++ (codes "), place " ++ decimal r.place))))
+
 abbrev pub shown_refusal : Refusal → List ℕ
-shown_refusal r =
-    codes "question " ++ (decimal (number_of r.question) ++ (codes " (" ++ (shown_part (part_of r.question) ++ (codes "), place " ++ decimal r.place))))
+shown_refusal r = shown_numbered (numbered r)

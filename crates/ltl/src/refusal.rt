@@ -1,7 +1,7 @@
 //! What a refusal tells: the question that was answered no, which has a number and a part, and a place.
 ghost use Rattle.std.specs.Prelude.{◌≡◌, Some};
-ghost use Rattle.ltl.specs.Questions.{number_of, part_of};
-ghost use Rattle.ltl.specs.Shown.{shown_part, shown_question, shown_refusal};
+ghost use Rattle.ltl.specs.Questions.{number_of, part_of, numbered};
+ghost use Rattle.ltl.specs.Shown.{shown_part, shown_question, shown_numbered, shown_refusal};
 
 use std::fmt;
 
@@ -50,6 +50,15 @@ pub struct Refusal {
     pub place: usize,
 }
 
+/// A refusal by a question's number and part, as people read it.
+// Beside `Refusal`: here a number and a part may be told of which this checker has no question.
+#[derive(Clone, Copy, PartialEq, Eq, Debug)]
+pub struct NumberedRefusal {
+    pub number: u8,
+    pub part: Part,
+    pub place: usize,
+}
+
 impl Question {
     /// The number by which people name the question.
     pub fn number(self) -> u8
@@ -87,6 +96,43 @@ impl Question {
             Question::RowNumber | Question::GridCells => Part::Watch,
         }
     }
+
+    /// The question in words.
+    pub fn words(self) -> &'static str
+        ensures { result.now ≡ shown_question self }
+    {
+        match self {
+            Question::SheetLength => "Has the sheet at most 4,096 bytes?",
+            Question::SheetBytes => "Is every byte 10 or from 32 to 126?",
+            Question::FirstWord => "Is the first word a keyword, after no watch line?",
+            Question::NewName => {
+                "Has the line a second word that is free, not reserved and at most 16 bytes long?"
+            }
+            Question::OneFormula => {
+                "Is the rest of the line exactly one formula, or nothing on a signal line?"
+            }
+            Question::SheetRows => "Are there at most 32 signals and 64 rows?",
+            Question::WatchLine => "Was there a watch line?",
+            Question::SignalsBelowWidth => "Are all signals below W?",
+            Question::StepRoom => "Has the step room?",
+            Question::Opening => "Is W from 1 to 32, and K at least 1?",
+            Question::RowNumber => "Is the row below R?",
+            Question::GridCells => "Has each grid at least R x (n + 1) cells?",
+        }
+    }
+}
+
+impl Refusal {
+    /// The refusal by its question's number and part.
+    pub fn numbered(self) -> NumberedRefusal
+        ensures { result ≡ numbered self }
+    {
+        NumberedRefusal {
+            number: self.question.number(),
+            part: self.question.part(),
+            place: self.place,
+        }
+    }
 }
 
 impl fmt::Display for Part {
@@ -106,24 +152,18 @@ impl fmt::Display for Question {
     ghost output = { λ q. Some (shown_question q) };
 
     fn fmt<W: fmt::Write>(&self, f: &mut fmt::Formatter<W>) -> fmt::Result {
-        f.write_str(match self {
-            Question::SheetLength => "Has the sheet at most 4,096 bytes?",
-            Question::SheetBytes => "Is every byte 10 or from 32 to 126?",
-            Question::FirstWord => "Is the first word a keyword, after no watch line?",
-            Question::NewName => {
-                "Has the line a second word that is free, not reserved and at most 16 bytes long?"
-            }
-            Question::OneFormula => {
-                "Is the rest of the line exactly one formula, or nothing on a signal line?"
-            }
-            Question::SheetRows => "Are there at most 32 signals and 64 rows?",
-            Question::WatchLine => "Was there a watch line?",
-            Question::SignalsBelowWidth => "Are all signals below W?",
-            Question::StepRoom => "Has the step room?",
-            Question::Opening => "Is W from 1 to 32, and K at least 1?",
-            Question::RowNumber => "Is the row below R?",
-            Question::GridCells => "Has each grid at least R x (n + 1) cells?",
-        })
+        f.write_str(self.words())
+    }
+}
+
+impl fmt::Display for NumberedRefusal {
+    ghost output = { λ r. Some (shown_numbered r) };
+
+    fn fmt<W: fmt::Write>(&self, f: &mut fmt::Formatter<W>) -> fmt::Result {
+        let number = self.number;
+        let part = self.part;
+        let place = self.place;
+        write!(f, "question {number} ({part}), place {place}")
     }
 }
 
@@ -131,9 +171,7 @@ impl fmt::Display for Refusal {
     ghost output = { λ r. Some (shown_refusal r) };
 
     fn fmt<W: fmt::Write>(&self, f: &mut fmt::Formatter<W>) -> fmt::Result {
-        let number = self.question.number();
-        let part = self.question.part();
-        let place = self.place;
-        write!(f, "question {number} ({part}), place {place}")
+        let numbered = self.numbered();
+        write!(f, "{numbered}")
     }
 }

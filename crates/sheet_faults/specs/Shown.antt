@@ -1,5 +1,7 @@
--- The words for each refusal: what is wrong.
+-- The words for each refusal: the question that was answered no, and what is wrong.
 use Rattle.std.specs.Prelude.{ℕ, List, codes}
+use Rattle.ltl.specs.Shown.{shown_question}
+use Rattle.sheet_faults.specs.Faults.{sheet_refusal}
 use Rattle.sheet_faults.specs.declared.fault.WordFault.{WordFault}
 use Rattle.sheet_faults.specs.declared.fault.WordFault.TheVariants as word
 use Rattle.sheet_faults.specs.declared.fault.FormulaFault.{FormulaFault}
@@ -8,6 +10,10 @@ use Rattle.sheet_faults.specs.declared.fault.NameFault.{NameFault}
 use Rattle.sheet_faults.specs.declared.fault.NameFault.TheVariants as name
 use Rattle.sheet_faults.specs.declared.fault.SheetFault.{SheetFault}
 use Rattle.sheet_faults.specs.declared.fault.SheetFault.TheVariants as sheet
+
+-- the question
+abbrev pub asked : SheetFault → List ℕ
+asked f = shown_question (sheet_refusal f).question
 
 -- what is wrong
 abbrev pub shown_word : WordFault → List ℕ

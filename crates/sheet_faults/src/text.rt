@@ -1,10 +1,19 @@
 //! Refusals in words.
-ghost use Rattle.std.specs.Prelude.{Some};
-ghost use Rattle.sheet_faults.specs.Shown.{shown_word, shown_formula, shown_name, shown_sheet};
+ghost use Rattle.std.specs.Prelude.{◌≡◌, Some};
+ghost use Rattle.sheet_faults.specs.Shown.{asked, shown_word, shown_formula, shown_name, shown_sheet};
 
 use crate::fault::{FormulaFault, NameFault, SheetFault, WordFault};
 use std::error::Error;
 use std::fmt;
+
+impl SheetFault {
+    /// The question answered no, in words.
+    pub fn question(self) -> &'static str
+        ensures { result.now ≡ asked self }
+    {
+        self.refusal().question.words()
+    }
+}
 
 // Display is written by hand: the derive `thiserror::Error` promises nothing of the text.
 impl fmt::Display for WordFault {
