@@ -2,8 +2,7 @@
 use Rattle.std.specs.Prelude.{not, ◌==◌}
 use Rattle.std.specs.List.{take_while, prefix_len}
 use Rattle.std.proofs.lemmas.List.Folds.{length-prefix_len}
-use Rattle.std.proofs.lemmas.List.Sums.{prefix_len_stops, prefix_len-drop_no}
-use Rattle.std.proofs.Common.{◌≡◌, ℕ, suc, ◌+◌, ◌<◌, ◌≤◌, Bool, true, false, cond, eqb, List, [], ◌∷◌, length, get_or, take, drop, sym, refl, ap, ◌∙◌, subst, add-zero, arith, length-drop}
+use Rattle.std.proofs.Common.{◌≡◌, ℕ, suc, ◌+◌, ◌<◌, ◌≤◌, Bool, true, false, cond, eqb, List, [], ◌∷◌, length, take, drop, sym, refl, ap, ◌∙◌, subst, add-zero, arith, length-drop}
 use Rattle.std.proofs.lemmas.List.{drop_all, drop-drop}
 use Rattle.sheet.specs.Parts.{gap, run, parts, part, parts_in}
 
@@ -36,7 +35,7 @@ gap_at sep p b bs true e ih = rw e (ih ∙ ap (λ k. parts sep k (drop (gap sep 
 gap_at sep p b bs false e ih = rw e (rw add-zero (rw e refl))
 
 -- past the separators
-parts_gap : (sep p : ℕ) (s : List ℕ) → parts sep p s ≡ parts sep (p + gap sep s) (drop (gap sep s) s)
+pub parts_gap : (sep p : ℕ) (s : List ℕ) → parts sep p s ≡ parts sep (p + gap sep s) (drop (gap sep s) s)
 unfolding parts_in
 parts_gap sep p [] = refl
 parts_gap sep p (b ∷ bs) = gap_at sep p b bs (eqb b sep) refl (parts_gap sep (suc p) bs)
@@ -50,7 +49,7 @@ run_at sep p b bs true e ih = rw e (rw add-zero (rw e refl))
 run_at sep p b bs false e ih = rw e (ih ∙ ap (λ k. parts sep k (drop (run sep bs) bs)) (omega arith))
 
 -- past the rest of a part
-parts_run : (sep p : ℕ) (s : List ℕ) → RunOf sep p s
+pub parts_run : (sep p : ℕ) (s : List ℕ) → RunOf sep p s
 unfolding parts_in
 parts_run sep p [] = refl
 parts_run sep p (b ∷ bs) = run_at sep p b bs (eqb b sep) refl (parts_run sep (suc p) bs)
@@ -64,34 +63,35 @@ here_at sep p b bs true e z = absurd (let w : suc (gap sep bs) ≡ 0 = rw e at z
 here_at sep p b bs false e z = rw e (ap (λ l. part (b ∷ take (run sep bs) bs) p ∷ l) (parts_run sep (suc p) bs ∙ ap (λ k. parts sep k (drop (run sep bs) bs)) (omega arith)))
 
 -- a part that begins here
-parts_here : (sep p : ℕ) (s : List ℕ) → 0 < length s → gap sep s ≡ 0 → parts sep p s ≡ part (take (run sep s) s) p ∷ parts sep (p + run sep s) (drop (run sep s) s)
+pub parts_here : (sep p : ℕ) (s : List ℕ) → 0 < length s → gap sep s ≡ 0 → parts sep p s ≡ part (take (run sep s) s) p ∷ parts sep (p + run sep s) (drop (run sep s) s)
 parts_here sep p [] h z = absurd (omega arith)
 parts_here sep p (b ∷ bs) h z = here_at sep p b bs (eqb b sep) refl z
 
-gap_gap : (sep : ℕ) (s : List ℕ) → gap sep s < length s → gap sep (drop (gap sep s) s) ≡ 0
-gap_gap sep s h =
-    let p = λ (c : ℕ). c == sep in
-    let g : prefix_len p s ≡ gap sep s = gap_prefix sep s in
-    let stops : p (get_or s (gap sep s) 0) ≡ false = rw g at (prefix_len_stops p s 0 (omega arith)) in
-    sym (gap_prefix sep (drop (gap sep s) s)) ∙ prefix_len-drop_no p s (gap sep s) 0 h stops
+gap_gap_at : (sep b : ℕ) (bs : List ℕ) (t : Bool) → eqb b sep ≡ t → gap sep (drop (gap sep bs) bs) ≡ 0 → gap sep (drop (gap sep (b ∷ bs)) (b ∷ bs)) ≡ 0
+gap_gap_at sep b bs true e ih = rw e ih
+gap_gap_at sep b bs false e ih = rw e (rw e refl)
+
+pub gap_gap : (sep : ℕ) (s : List ℕ) → gap sep (drop (gap sep s) s) ≡ 0
+gap_gap sep [] = refl
+gap_gap sep (b ∷ bs) = gap_gap_at sep b bs (eqb b sep) refl (gap_gap sep bs)
 
 run_pos_at : (sep b : ℕ) (bs : List ℕ) (t : Bool) → eqb b sep ≡ t → gap sep (b ∷ bs) ≡ 0 → 0 < run sep (b ∷ bs)
 run_pos_at sep b bs true e z = absurd (let w : suc (gap sep bs) ≡ 0 = rw e at z in omega arith)
 run_pos_at sep b bs false e z = rw e (omega arith)
 
-run_pos : (sep : ℕ) (s : List ℕ) → 0 < length s → gap sep s ≡ 0 → 0 < run sep s
+pub run_pos : (sep : ℕ) (s : List ℕ) → 0 < length s → gap sep s ≡ 0 → 0 < run sep s
 run_pos sep [] h z = absurd (omega arith)
 run_pos sep (b ∷ bs) h z = run_pos_at sep b bs (eqb b sep) refl z
 
 -- nothing but separators
-parts_none : (sep p : ℕ) (s : List ℕ) → length s ≤ gap sep s → parts sep p s ≡ []
+pub parts_none : (sep p : ℕ) (s : List ℕ) → length s ≤ gap sep s → parts sep p s ≡ []
 unfolding parts_in
 parts_none sep p s h = parts_gap sep p s ∙ ap (parts sep (p + gap sep s)) (drop_all (gap sep s) s h)
 
 -- the next part, past g separators and of n bytes
 pub parts_next : (sep p : ℕ) (s : List ℕ) (g n : ℕ) → g ≡ gap sep s → n ≡ run sep (drop g s) → g < length s → (0 < n) × (parts sep p s ≡ part (take n (drop g s)) (p + g) ∷ parts sep (p + (g + n)) (drop (g + n) s))
 parts_next sep p s g n eg en h =
-    let z : gap sep (drop g s) ≡ 0 = rw eg (gap_gap sep s (omega arith)) in
+    let z : gap sep (drop g s) ≡ 0 = rw eg (gap_gap sep s) in
     let some : 0 < length (drop g s) = rw length-drop (omega arith) in
     let here = parts_here sep (p + g) (drop g s) some z in
     let past : parts sep p s ≡ parts sep (p + g) (drop g s) = rw eg (parts_gap sep p s) in

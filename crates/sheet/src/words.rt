@@ -8,6 +8,13 @@ pub struct Word<'a> {
     pub at: usize,
 }
 
+/// A word, and how many bytes lie up to its end.
+#[derive(Clone, Copy, Debug)]
+pub struct Next<'a> {
+    pub word: Word<'a>,
+    pub used: usize,
+}
+
 /// The parts of a text that are left, in order.
 #[derive(Clone, Copy, Debug)]
 pub struct Parts<'a, const SEPARATOR: u8> {
@@ -22,4 +29,4 @@ pub type Lines<'a> = Parts<'a, b'\n'>;
 
 mod cuts;
 
-pub use cuts::run_len;
+pub use cuts::{next_word, run_len};

@@ -16,13 +16,13 @@ use Rattle.ltl.proofs.Unfold.{after_same}
 
 module _ {V : Type 0} (o : Ops V) (steps : List ℕ) (f : Formula) (grid : Grid V) (r i : ℕ) (has : HasCell grid r i) (stands : Stands o steps f grid i r) where
   -- a lower row at this position
-  look : (a : ℕ) (v : V) → a < r → v ≡ cell_of grid a i v → v ≡ meaning o steps f a i
+  pub look : (a : ℕ) (v : V) → a < r → v ≡ cell_of grid a i v → v ≡ meaning o steps f a i
   look a v h e =
       let b : HasCell grid a i = record { wide = has.wide; row = omega arith; first = has.first; last = has.last } in
       seen grid.cells.now grid.rows o.no b e ∙ stands.held.here a h
 
   -- a row at the next position, or at this one after the end
-  look_next : (a j : ℕ) (v : V) → a < r → (i ≤ length steps → j ≡ i + 1) → (length steps < i → j ≡ i) → v ≡ cell_of grid a j v → v ≡ meaning o steps f a (i + 1)
+  pub look_next : (a j : ℕ) (v : V) → a < r → (i ≤ length steps → j ≡ i + 1) → (length steps < i → j ≡ i) → v ≡ cell_of grid a j v → v ≡ meaning o steps f a (i + 1)
   look_next a j v h e e' q =
       ⊎_elim
       (λ l. let z : j ≡ i + 1 = e (omega arith) in
@@ -33,7 +33,7 @@ module _ {V : Type 0} (o : Ops V) (steps : List ℕ) (f : Formula) (grid : Grid 
       (cases_lt i (length steps + 1))
 
   -- what comes after this position for the row itself
-  look_ahead : cond (leb i (length steps)) (o.later (cell_of grid r (i + 1) o.no)) o.«open» ≡ rest o (length steps) (meaning o steps f r) i
+  pub look_ahead : cond (leb i (length steps)) (o.later (cell_of grid r (i + 1) o.no)) o.«open» ≡ rest o (length steps) (meaning o steps f r) i
   look_ahead =
       ⊎_elim
       (λ l. let t = lt-leb i (length steps) l in rw t)

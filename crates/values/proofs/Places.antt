@@ -16,7 +16,7 @@ pub seen : {V : Type 0} (cells : List V) (rows : ℕ) {p r i : ℕ} {v : V} (d :
 seen cells rows {p} {r} {i} {v} d h e = let k = inside (length cells) rows p r i h in get_or_read cells (place p r i) v (omega (arith, h.first)) e d
 
 -- two columns share no place
-columns_apart : (p a j r i : ℕ) → 1 ≤ j → j ≤ p → 1 ≤ i → i ≤ p → j ≢ i → place p a j ≢ place p r i
+pub columns_apart : (p a j r i : ℕ) → 1 ≤ j → j ≤ p → 1 ≤ i → i ≤ p → j ≢ i → place p a j ≢ place p r i
 columns_apart p a j r i h h' l l' ne e =
     let x : j - 1 < p = omega arith in
     let y : i - 1 < p = omega arith in
@@ -24,7 +24,7 @@ columns_apart p a j r i h h' l l' ne e =
     ne (omega (arith, sym (mod-mul-add a p (j - 1) x) ∙ ap (λ k. k % p) s ∙ mod-mul-add r p (i - 1) y))
 
 -- nor do two rows
-rows_apart : (p a r i : ℕ) → 1 ≤ i → i ≤ p → a ≢ r → place p a i ≢ place p r i
+pub rows_apart : (p a r i : ℕ) → 1 ≤ i → i ≤ p → a ≢ r → place p a i ≢ place p r i
 rows_apart p a r i l l' ne e =
     let y : i - 1 < p = omega arith in
     let s : a * p + (i - 1) ≡ r * p + (i - 1) = omega arith in

@@ -1,11 +1,11 @@
 //! Going through the parts of a text.
-ghost use Rattle.std.specs.Prelude.{◌≡◌, ℕ, ◌+◌, ◌<◌, ◌≤◌, [], ◌∷◌, IfSome, length, MatchOption, not, ◌==◌};
+ghost use Rattle.std.specs.Prelude.{◌≡◌, ℕ, ◌+◌, ◌<◌, ◌≤◌, [], ◌∷◌, IfSome, length, drop, MatchOption, not, ◌==◌};
 ghost use Rattle.std.specs.List.{take_while};
 ghost use Rattle.std.specs.Iterator.{YieldsFirstBy, item_count};
-ghost use Rattle.sheet.specs.Parts.{Part, parts};
+ghost use Rattle.sheet.specs.Parts.{Part, part, parts};
 ghost use Rattle.sheet.specs.Cuts.{part_of, parts_left, end_of, FirstPart};
 
-use super::{Lines, Parts, Word, Words};
+use super::{Lines, Next, Parts, Word, Words};
 
 impl<'a, const SEPARATOR: u8> Parts<'a, SEPARATOR> {
     /// The parts of a text.
@@ -69,7 +69,7 @@ impl<'a> Lines<'a> {
 }
 
 /// How many separators stand at the front.
-// `s` and `separator` stay parameters of these four functions: a struct of them would be `Parts`, which is made of what they tell.
+// `s` and `separator` stay parameters of these five functions: a struct of them would be `Parts`, which is made of what they tell.
 fn gap_len(s: &[u8], separator: u8) -> usize
     ensures { result ≡ length (take_while (λ b. b == separator) s.now) }
 {
@@ -107,4 +107,14 @@ fn first_part<'a>(s: &'a [u8], separator: u8) -> Option<Word<'a>>
         return None;
     }
     Some(part_at(s, separator, at))
+}
+
+/// The first word of `s`, or nothing where `s` holds only separators.
+// Beside the iterator: the separator may be known only where the program runs, and the rest is told in bytes.
+pub fn next_word<'a>(s: &'a [u8], separator: u8) -> Option<Next<'a>>
+    ensures { MatchOption result ((p : ℕ) → parts separator p s.now ≡ []) (λ w. (0 < w.used) × (w.used ≤ length s.now) × (w.word.at + length w.word.text.now ≡ w.used) × ((p : ℕ) → parts separator p s.now ≡ part w.word.text.now (p + w.word.at) ∷ parts separator (p + w.used) (drop w.used s.now))) }
+{
+    let word = first_part(s, separator)?;
+    let used = word.at + word.text.len();
+    Some(Next { word, used })
 }
