@@ -38,7 +38,7 @@ next n r rs [] a = absurd a
 next n r rs (x ∷ xs) a = record { row = x; behind = xs; is = refl; same = a.0; agree = a.1 }
 
 -- what is true of rows pushed so far: those that agree with what is left make what all make
-abbrev Left : List Row → ℕ → List Row → List Row → List Row → Type 0
+abbrev pub Left : List Row → ℕ → List Row → List Row → List Row → Type 0
 Left k n rs xs all = Agree n rs xs × (take 64 (k ++ xs) ≡ all)
 
 pub left_more : (k k' : List Row) (n n' : ℕ) (rows xs : List Row) (i : ℕ) (all : List Row) → i < length rows → n' ≡ n + 1 → ((x : Row) → (n < 64 → get_or rows i (Signal 0) ≡ x) → k' ≡ take 64 (k ++ x ∷ [])) → Left k n (drop i rows) (drop i xs) all → Left k' n' (drop (i + 1) rows) (drop (i + 1) xs) all

@@ -83,7 +83,7 @@ adds_from sheet st (w ∷ ws) end st' e =
     let k = keyword_yes st.watch w.at x a.0 a.1 in
     record { kind = a.0; is_keyword = k.0; no_watch = k.1; line = by_yes sheet st w.at end a.0 ws st' a.2 }
 
-from_adds : (sheet : List ℕ) (st : State) (ws : List Part) (end : ℕ) (st' : State) → Adds sheet st ws st' → by_words sheet st ws end ≡ Ok st'
+pub from_adds : (sheet : List ℕ) (st : State) (ws : List Part) (end : ℕ) (st' : State) → Adds sheet st ws st' → by_words sheet st ws end ≡ Ok st'
 from_adds sheet st [] end st' e = ap Ok (sym e)
 from_adds sheet st (w ∷ ws) end st' l =
     ap (λ x. and_then (ask_keyword st.watch w.at x) (λ k. by_keyword sheet st w.at k ws end)) l.is_keyword

@@ -24,7 +24,7 @@ use Rattle.sheet_reader.specs.declared.reading.Plan.{Plan}
 use Rattle.ltl.specs.declared.row.Row.TheVariants.{Signal}
 
 -- a draft of at most 64 rows keeps them all
-kept_all : (d : Draft) → d.count ≤ 64 → length (kept d) ≡ d.count
+pub kept_all : (d : Draft) → d.count ≤ 64 → length (kept d) ≡ d.count
 kept_all d h = d.kept ∙ omega (arith, h)
 
 room_cut : (a b : Bool) (p : ℕ) (st : State) → (a ≡ false) ⊎ (b ≡ false) → cond (a && b) (Ok st) (Err (TooMany p)) ≡ Err (TooMany p)
@@ -33,43 +33,43 @@ room_cut true false p st h = refl
 room_cut true true p st (inl e) = cc
 room_cut true true p st (inr e) = cc
 
-no_room : (p : ℕ) (st : State) → (32 < st.width) ⊎ (64 < length st.rows) → ask_room p st ≡ Err (TooMany p)
+pub no_room : (p : ℕ) (st : State) → (32 < st.width) ⊎ (64 < length st.rows) → ask_room p st ≡ Err (TooMany p)
 no_room p st h =
     room_cut (leb st.width 32) (leb (length st.rows) 64) p st
     (⊎_elim (λ (w : 32 < st.width). inl (lt-leb st.width 32 w)) (λ (r : 64 < length st.rows). inr (lt-leb (length st.rows) 64 r)) h)
 
 module _ (sheet : List ℕ) (st : State) (p end : ℕ) (ws : List Part) where
   -- a signal line
-  signal_by : (w : Part) (xs : List Part) → ask_name sheet st.names ws end ≡ Ok (w, xs) → ask_nothing xs ≡ Ok tt → by_keyword sheet st p key.Signal ws end ≡ ask_room p (with_signal w st)
+  pub signal_by : (w : Part) (xs : List Part) → ask_name sheet st.names ws end ≡ Ok (w, xs) → ask_nothing xs ≡ Ok tt → by_keyword sheet st p key.Signal ws end ≡ ask_room p (with_signal w st)
   signal_by w xs e o = rw (e, o)
 
   -- a name line
-  name_by : (w : Part) (xs : List Part) (t : Written) → ask_name sheet st.names ws end ≡ Ok (w, xs) → ask_operator xs end ≡ Ok tt → ask_formula sheet st.names xs end ≡ Ok t → by_keyword sheet st p key.Name ws end ≡ ask_room p (with_named w t st)
+  pub name_by : (w : Part) (xs : List Part) (t : Written) → ask_name sheet st.names ws end ≡ Ok (w, xs) → ask_operator xs end ≡ Ok tt → ask_formula sheet st.names xs end ≡ Ok t → by_keyword sheet st p key.Name ws end ≡ ask_room p (with_named w t st)
   name_by w xs t e o q = rw (e, o, q)
 
   -- the watch line
-  watch_by : (t : Written) → ask_formula sheet st.names ws end ≡ Ok t → by_keyword sheet st p key.Watch ws end ≡ ask_room p (with_watch t st)
+  pub watch_by : (t : Written) → ask_formula sheet st.names ws end ≡ Ok t → by_keyword sheet st p key.Watch ws end ≡ ask_room p (with_watch t st)
   watch_by t q = rw q
 
-same_state : (a b : State) → a.rows ≡ b.rows → a.names ≡ b.names → a.width ≡ b.width → a.watch ≡ b.watch → a ≡ b
+pub same_state : (a b : State) → a.rows ≡ b.rows → a.names ≡ b.names → a.width ≡ b.width → a.watch ≡ b.watch → a ≡ b
 same_state a b p q r s = λ i. record { rows = p i; names = q i; width = r i; watch = s i }
 
 -- a formula that was added to all the rows
-added_count : (d : Draft) → d.count ≤ 64 → {n' row : ℕ} {k' : List Row} {t : Written} → Added d.count (kept d) n' k' row t → length (kept d ++ made (length (kept d)) t) ≡ n'
+pub added_count : (d : Draft) → d.count ≤ 64 → {n' row : ℕ} {k' : List Row} {t : Written} → Added d.count (kept d) n' k' row t → length (kept d ++ made (length (kept d)) t) ≡ n'
 added_count d few {t = t} a =
     let n = kept_all d few in
     length-append (kept d) (made (length (kept d)) t) ∙ omega (arith, a.count, length_made (length (kept d)) t)
 
-added_rows : (d : Draft) → d.count ≤ 64 → {n' row : ℕ} {k' : List Row} {t : Written} → Added d.count (kept d) n' k' row t → n' ≤ 64 → k' ≡ kept d ++ made (length (kept d)) t
+pub added_rows : (d : Draft) → d.count ≤ 64 → {n' row : ℕ} {k' : List Row} {t : Written} → Added d.count (kept d) n' k' row t → n' ≤ 64 → k' ≡ kept d ++ made (length (kept d)) t
 added_rows d few {t = t} a h =
     let short : length (kept d ++ made (length (kept d)) t) ≤ 64 = omega (arith, added_count d few a) in
     a.rows ∙ ap (λ n. take 64 (kept d ++ made n t)) (sym (kept_all d few)) ∙ take_all 64 (kept d ++ made (length (kept d)) t) short
 
-added_row : (d : Draft) → d.count ≤ 64 → {n' row : ℕ} {k' : List Row} {t : Written} → Added d.count (kept d) n' k' row t → row ≡ top (length (kept d)) t
+pub added_row : (d : Draft) → d.count ≤ 64 → {n' row : ℕ} {k' : List Row} {t : Written} → Added d.count (kept d) n' k' row t → row ≡ top (length (kept d)) t
 added_row d few a = rw (kept_all d few) a.number
 
 -- an operator first makes a row
-named_size : (sheet : List ℕ) (names : List Name) (xs : List Part) (end : ℕ) (t : Written) → ask_operator xs end ≡ Ok tt → ask_formula sheet names xs end ≡ Ok t → 0 < size t
+pub named_size : (sheet : List ℕ) (names : List Name) (xs : List Part) (end : ℕ) (t : Written) → ask_operator xs end ≡ Ok tt → ask_formula sheet names xs end ≡ Ok t → 0 < size t
 named_size sheet names xs end t o q = operated_size t (operator_yes sheet names xs end t o (formula_yes sheet names xs end t q))
 
 abbrev pub making : List Row → List Name → ℕ → Option ℕ → State

@@ -57,12 +57,12 @@ no_some None e = refl
 no_some (Some x) e = cc
 
 module _ (sheet : List ℕ) (names : List Name) where
-  fresh_from : (w : Part) → name_fault sheet names w ≡ None → Fresh sheet names w.text
+  pub fresh_from : (w : Part) → name_fault sheet names w ≡ None → Fresh sheet names w.text
   fresh_from w e =
       let c = chosen (reserved w.text) (is_some (row_named sheet names w.text)) (leb (length w.text) 16) _ _ _ e in
       record { unreserved = c.0; undeclared = no_some (row_named sheet names w.text) c.1; short = leb-true (length w.text) 16 c.2 }
 
-  from_fresh : (w : Part) → Fresh sheet names w.text → name_fault sheet names w ≡ None
+  pub from_fresh : (w : Part) → Fresh sheet names w.text → name_fault sheet names w ≡ None
   from_fresh w f = let l = le-leb (length w.text) 16 f.short in rw (f.unreserved, f.undeclared, l)
 
   pub name_yes : (ws : List Part) (end : ℕ) (n : Part × List Part) → ask_name sheet names ws end ≡ Ok n → (ws ≡ n.0 ∷ n.1) × Fresh sheet names n.0.text

@@ -123,7 +123,7 @@ sound_line sheet st s key.Watch ws st' l =
 pub sound_keyword : (sheet : List ℕ) (st : State) → Sound st → (p : ℕ) (k : Keyword) (ws : List Part) (end : ℕ) (st' : State) → by_keyword sheet st p k ws end ≡ Ok st' → Sound st'
 sound_keyword sheet st s p k ws end st' e = sound_line sheet st s k ws st' (by_yes sheet st p end k ws st' e)
 
-sound_adds : (sheet : List ℕ) (st : State) → Sound st → (ws : List Part) (st' : State) → Adds sheet st ws st' → Sound st'
+pub sound_adds : (sheet : List ℕ) (st : State) → Sound st → (ws : List Part) (st' : State) → Adds sheet st ws st' → Sound st'
 sound_adds sheet st s [] st' e = subst Sound (sym e) s
 sound_adds sheet st s (w ∷ ws) st' l = sound_line sheet st s l.kind ws st' l.line
 

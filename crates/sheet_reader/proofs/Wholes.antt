@@ -11,7 +11,7 @@ use Rattle.sheet_reader.specs.declared.reading.Name.{Name}
 use Rattle.sheet_reader.proofs.Grammar.{formulas_spelt}
 
 module _ (sheet : List ℕ) (names : List Name) (ws : List Part) (end : ℕ) where
-  asked_no : (f : FormulaFault) → wrong (symbols_of sheet names ws) end 1 ≡ Some f → ask_formula sheet names ws end ≡ Err f
+  pub asked_no : (f : FormulaFault) → wrong (symbols_of sheet names ws) end 1 ≡ Some f → ask_formula sheet names ws end ≡ Err f
   asked_no f e = ap (λ o. and_then (unless o) (λ _. Ok (first (formulas (bare (symbols_of sheet names ws)))))) e
 
   pub asked_yes : (t : Written) → wrong (symbols_of sheet names ws) end 1 ≡ None → formulas (bare (symbols_of sheet names ws)) ≡ t ∷ [] → ask_formula sheet names ws end ≡ Ok t

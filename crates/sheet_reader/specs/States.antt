@@ -17,6 +17,11 @@ abbrev pub told_plan : Result Plan SheetFault → Result State SheetFault
 told_plan (Ok p) = Ok (state_of p)
 told_plan (Err e) = Err e
 
+-- what a call that changes a plan tells: the state that it leaves, or its fault
+abbrev pub told_left : Result (Unit {0}) SheetFault → Plan → Result State SheetFault
+told_left (Ok v) p = Ok (state_of p)
+told_left (Err e) p = Err e
+
 -- questions 4 to 6 on a line with this keyword
 abbrev pub by_line : Keyword → Line → State → Result State SheetFault
 by_line k l st = by_keyword l.sheet.now st l.first k (parts_left l.words) (end_of l.words)

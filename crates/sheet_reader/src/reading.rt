@@ -46,7 +46,7 @@ struct Draft {
 }
 
 /// A sheet as read so far: its rows, names and signals, and the watch row once its line is read.
-// A plan goes by value: behind a `&mut` its ghost fields would not hold after an `Err`.
+// A line changes it only once nothing of the line can be refused: its ghost fields hold after an `Err` too.
 #[derive(Drop)]
 struct Plan {
     draft: Draft,

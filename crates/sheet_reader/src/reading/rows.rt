@@ -27,6 +27,18 @@ impl Draft {
         }
     }
 
+    /// The same rows.
+    // Not `Clone`, which may fail.
+    pub(super) fn copied(&self) -> Draft
+        ensures count { result.count ≡ self.now.count }
+        ensures rows { kept result ≡ kept self.now }
+    {
+        Draft {
+            rows: ArrayVec::try_from(self.rows.as_slice()).unwrap(),
+            count: self.count,
+        }
+    }
+
     /// Counts one row more and keeps it where it is one of the first 64.
     #[tactic(auto, using(crate::proofs::Drafts::pushed_in, crate::proofs::Drafts::pushed_out))]
     pub(super) fn push(&mut self, row: Row)

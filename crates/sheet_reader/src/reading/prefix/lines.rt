@@ -6,7 +6,7 @@ ghost use Rattle.sheet.specs.declared.token.Keyword.TheVariants as key;
 ghost use Rattle.sheet_faults.specs.declared.fault.SheetFault.TheVariants.{TooMany};
 ghost use Rattle.sheet_reader.specs.Names.{named, within};
 ghost use Rattle.sheet_reader.specs.Sheets.{start, lines, ask_keyword, name_fault, unless, ask_name, ask_operator, by_words, by_lines, finished, allowed, foreign_byte, read_sheet};
-ghost use Rattle.sheet_reader.specs.States.{state_of, told_plan, by_line};
+ghost use Rattle.sheet_reader.specs.States.{state_of, told_plan, told_left, by_line};
 ghost use Rattle.sheet_reader.specs.Promises.{Promised};
 ghost use Rattle.sheet_reader.specs.Readings.{told};
 
@@ -121,77 +121,62 @@ impl Plan {
         }
     }
 
-    /// The plan with a signal line.
+    /// Adds a signal line.
     #[tactic(auto, using(crate::proofs::Plans::signal_makes))]
-    fn with_signal(self, line: Line) -> Result<Plan, SheetFault>
-        ensures { told_plan result ≡ by_line key.Signal line.entry (state_of self) }
+    fn add_signal(&mut self, line: Line) -> Result<(), SheetFault>
+        ensures { told_left result self.new ≡ by_line key.Signal line.entry (state_of self.old) }
     {
-        let mut draft = self.draft;
-        let mut names = self.names;
         let mut words = line.words;
-        let declared = Declared::new(line.sheet, &names);
+        let declared = Declared::new(line.sheet, &self.names);
         let name = declared.new_name(&mut words)?;
         nothing_more(words)?;
-        if self.width >= SIGNALS || draft.count >= ROWS {
+        if self.width >= SIGNALS || self.draft.count >= ROWS {
             return Err(SheetFault::TooMany { at: line.first });
         }
-        names.push(Name::new(name, draft.count));
-        draft.push(Row::Signal(self.width));
-        // No `..self` in these three: a literal of a struct with ghost fields may not have it.
-        Ok(Plan {
-            draft,
-            names,
-            width: self.width + 1,
-            watch: self.watch,
-        })
+        self.names.push(Name::new(name, self.draft.count));
+        self.draft.push(Row::Signal(self.width));
+        self.width += 1;
+        Ok(())
     }
 
-    /// The plan with a name line.
+    /// Adds a name line.
     #[tactic(auto, using(crate::proofs::Plans::known_in, crate::proofs::Plans::name_full, crate::proofs::Plans::name_room, crate::proofs::Plans::name_makes))]
-    fn with_name(self, line: Line) -> Result<Plan, SheetFault>
-        ensures { told_plan result ≡ by_line key.Name line.entry (state_of self) }
+    fn add_name(&mut self, line: Line) -> Result<(), SheetFault>
+        ensures { told_left result self.new ≡ by_line key.Name line.entry (state_of self.old) }
     {
-        let mut draft = self.draft;
-        let mut names = self.names;
+        let mut draft = self.draft.copied();
         let mut words = line.words;
-        let declared = Declared::new(line.sheet, &names);
+        let declared = Declared::new(line.sheet, &self.names);
         let name = declared.new_name(&mut words)?;
         operator_first(words)?;
         let row = declared.whole_formula(words, &mut draft)?;
         draft.room(line.first)?;
-        names.push(Name::new(name, row));
-        Ok(Plan {
-            draft,
-            names,
-            width: self.width,
-            watch: self.watch,
-        })
+        self.names.push(Name::new(name, row));
+        self.draft = draft;
+        Ok(())
     }
 
-    /// The plan with the watch line.
+    /// Adds the watch line.
     #[tactic(auto, using(crate::proofs::Plans::known_in, crate::proofs::Plans::watch_sound))]
-    fn with_watch(self, line: Line) -> Result<Plan, SheetFault>
-        ensures { told_plan result ≡ by_line key.Watch line.entry (state_of self) }
+    fn add_watch(&mut self, line: Line) -> Result<(), SheetFault>
+        ensures { told_left result self.new ≡ by_line key.Watch line.entry (state_of self.old) }
     {
-        let mut draft = self.draft;
+        let mut draft = self.draft.copied();
         let declared = Declared::new(line.sheet, &self.names);
         let row = declared.whole_formula(line.words, &mut draft)?;
         draft.room(line.first)?;
-        Ok(Plan {
-            draft,
-            names: self.names,
-            width: self.width,
-            watch: Some(row),
-        })
+        self.draft = draft;
+        self.watch = Some(row);
+        Ok(())
     }
 
-    /// The plan with one line more, which stands at its place in the sheet.
-    fn with_line(self, sheet: &[u8], mut words: Words) -> Result<Plan, SheetFault>
+    /// Adds one line more, which stands at its place in the sheet.
+    fn add_line(&mut self, sheet: &[u8], mut words: Words) -> Result<(), SheetFault>
         requires { end_of words ≤ 4096 }
-        ensures { told_plan result ≡ by_words sheet.now (state_of self) (parts_left words.entry) (end_of words.entry) }
+        ensures { told_left result self.new ≡ by_words sheet.now (state_of self.old) (parts_left words.entry) (end_of words.entry) }
     {
         let Some(word) = words.next_part() else {
-            return Ok(self);
+            return Ok(());
         };
         let keyword = line_keyword(word, self.watch)?;
         let line = Line {
@@ -201,9 +186,9 @@ impl Plan {
         };
         // A match and no table of functions: it names each kind of line once.
         match keyword {
-            Keyword::Signal => self.with_signal(line),
-            Keyword::Name => self.with_name(line),
-            Keyword::Watch => self.with_watch(line),
+            Keyword::Signal => self.add_signal(line),
+            Keyword::Name => self.add_name(line),
+            Keyword::Watch => self.add_watch(line),
         }
     }
 
@@ -230,7 +215,7 @@ fn read_lines(sheet: &[u8]) -> Result<Plan, SheetFault>
     let mut lines = Lines::new(sheet);
     // No `for`, since an item of `Lines` alone does not say that its end fits.
     while let Some(words) = lines.next_words() {
-        plan = plan.with_line(sheet, words)?;
+        plan.add_line(sheet, words)?;
     }
     Ok(plan)
 }

@@ -3,11 +3,11 @@ use Rattle.std.proofs.Common.{[], ◌∷◌, ◌++◌, sym, refl, ap, ◌∙◌,
 use Rattle.sheet.specs.Cuts.{parts_left, end_of}
 use Rattle.sheet_reader.specs.Names.{names_in}
 use Rattle.sheet_reader.proofs.Plans.{signal_sound}
-use Rattle.sheet_reader.proofs.reading.Plan.with_signal.Goals as goal
+use Rattle.sheet_reader.proofs.reading.Plan.add_signal.Goals as goal
 
-pub invariant_of-result-clause-sound : goal.invariant_of-result-clause-sound
-invariant_of-result-clause-sound c =
-    let p = c.args.self in
+pub invariant_of-self-clause-sound : goal.invariant_of-self-clause-sound
+invariant_of-self-clause-sound c =
+    let p = c.args.self.now in
     let l = c.args.line in
     let name = rw c.new-declared.ensures at c.in_ok-name.ensures.name in
     let names = c.push.ensures.items ∙ ap (λ n. names_in p.names ++ n ∷ []) c.new.ensures in
