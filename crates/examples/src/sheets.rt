@@ -97,11 +97,11 @@ fn inputs(rt: HostRuntime) {
     assert_eq!(rt; split.sheet, 8);
     assert_eq!(rt; split.steps, 8);
     let line = line_around(b"ab\ncde\nf", 4);
-    assert_eq!(rt; line.start, 3);
-    assert_eq!(rt; line.end, 6);
+    assert_eq!(rt; line.from, 3);
+    assert_eq!(rt; line.to, 6);
     let line = line_around(b"ab\n", 9);
-    assert_eq!(rt; line.start, 3);
-    assert_eq!(rt; line.end, 3);
+    assert_eq!(rt; line.from, 3);
+    assert_eq!(rt; line.to, 3);
 }
 
 #[test]

@@ -29,6 +29,20 @@ pub fn filled<S: Scale, R: Recording>(
     Ok(values)
 }
 
+/// The three-valued value and the pair of counts of every row at every position, each in cells of their own.
+// Two vectors, and not one of both: that stands beside the two while it is made.
+pub fn values_and_counts<R: Recording>(
+    heap: Global,
+    formula: &Formula,
+    recording: &R,
+) -> Result<(Vec<Truth>, Vec<Pair>), AllocError>
+    ensures { IfOk result (λ v. AreCells truth_ops truer (R.width recording.now) (R.steps recording.now) formula.now v.0.items × AreCells pair_ops truer_pair (R.width recording.now) (R.steps recording.now) formula.now v.1.items) }
+{
+    let values: Vec<Truth> = filled(heap, formula, recording)?;
+    let counts: Vec<Pair> = filled(heap, formula, recording)?;
+    Ok((values, counts))
+}
+
 /// Values and counts, cell by cell.
 fn paired(heap: Global, values: &[Truth], counts: &[Pair]) -> Result<Vec<(Truth, Pair)>, AllocError>
     ensures { IfOk result (λ v. v.items ≡ zip values.now counts.now) }
@@ -40,7 +54,7 @@ fn paired(heap: Global, values: &[Truth], counts: &[Pair]) -> Result<Vec<(Truth,
         .collect(heap)
 }
 
-/// The three-valued value and the pair of counts of every row at every position, cell by cell.
+/// The same, value and pair cell by cell.
 pub fn judged<R: Recording>(
     heap: Global,
     formula: &Formula,
@@ -48,7 +62,6 @@ pub fn judged<R: Recording>(
 ) -> Result<Vec<(Truth, Pair)>, AllocError>
     ensures { IfOk result (λ v. (values : List Truth) × (counts : List Pair) × AreCells truth_ops truer (R.width recording.now) (R.steps recording.now) formula.now values × AreCells pair_ops truer_pair (R.width recording.now) (R.steps recording.now) formula.now counts × (v.items ≡ zip values counts)) }
 {
-    let values: Vec<Truth> = filled(heap, formula, recording)?;
-    let counts: Vec<Pair> = filled(heap, formula, recording)?;
+    let (values, counts) = values_and_counts(heap, formula, recording)?;
     paired(heap, values.as_slice(), counts.as_slice())
 }

@@ -46,10 +46,8 @@ fn only_word(line: &[u8], word: &[u8]) -> bool
     ensures { result ≡ only word.now (parts 32 0 line.now) }
 {
     let mut words = Words::new(line);
-    match (words.next(), words.next()) {
-        (Some(first), None) => first.text == word,
-        _ => false,
-    }
+    // The rest of the line is looked at only behind this word.
+    words.next().is_some_and(|first| first.text == word) && words.next().is_none()
 }
 
 /// The step whose signals the words of a line name.

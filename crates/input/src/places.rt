@@ -4,7 +4,14 @@ ghost use Rattle.std.specs.List.{take_while};
 ghost use Rattle.input.specs.Places.{around};
 
 use sheet::words::run_len;
-use std::ops::Range;
+
+/// A line of a text: the offsets where it begins and ends.
+// No `Range`, which is not `Copy`.
+#[derive(Clone, Copy, Debug)]
+pub struct Around {
+    pub from: usize,
+    pub to: usize,
+}
 
 /// How many bytes stand after the last byte 10.
 // Beside `run_len`, which goes on from the front: the iterator as a parameter would be longer than either line.
@@ -16,11 +23,14 @@ fn last_line_len(s: &[u8]) -> usize
 
 /// The offsets of the line in which a place lies; a place past the end is the end.
 #[tactic(auto, using(crate::proofs::Around::around_is))]
-pub fn line_around(s: &[u8], place: usize) -> Range<usize>
+pub fn line_around(s: &[u8], place: usize) -> Around
     ensures is { result ≡ around s.now place }
-    ensures within { (result.start ≤ min place (length s.now)) × (result.end ≤ length s.now) × (min place (length s.now) ≤ result.end) }
+    ensures within { (result.from ≤ min place (length s.now)) × (result.to ≤ length s.now) × (min place (length s.now) ≤ result.to) }
 {
     let place = place.min(s.len());
     let (before, after) = s.split_at(place);
-    place - last_line_len(before)..place + run_len(after, b'\n')
+    Around {
+        from: place - last_line_len(before),
+        to: place + run_len(after, b'\n'),
+    }
 }

@@ -1,19 +1,26 @@
 //! Judges a formula sheet over the steps that follow it in a file or on standard input.
 #![tactic(auto)]
 
+ghost use Rattle.std.specs.Prelude.{length};
+ghost use Rattle.sheet.specs.Parts.{parts};
+ghost use Rattle.recorder.specs.Recordings.{record_answer};
+ghost use Rattle.sheet_reader.specs.Readings.{reading_of};
+ghost use Rattle.sheet_reader.specs.Signals.{signal_named};
+ghost use Rattle.input.specs.Recorded.{Recorded};
+
 use anyhow::anyhow;
-use heap_grid::cells::judged;
+use heap_grid::cells::values_and_counts;
 use input::lines::split_input;
 use input::places::line_around;
 use input::steps::{StepFault, record_lines};
 use ltl::formula::Formula;
 use ltl::refusal::Refusal;
 use recorder::plain::{LIMIT, PlainRecorder};
-use recorder::recording::Recording;
+use recorder::recording::{Recorder, Recording};
 use scales::pair::Pair;
 use scales::truth::Truth;
-use sheet_reader::reading::read;
 use sheet_reader::reading::signals::SheetSignals;
+use sheet_reader::reading::{Sheet, read};
 use std::alloc::Global;
 use std::fmt::{Display, Write};
 use std::io::Read;
@@ -45,15 +52,16 @@ done is told on standard error. A refusal prints `refused NUMBER PLACE` alone; t
 /// The line of a text in which a place lies, and a caret under the place. Bytes that do not print are shown as dots.
 fn shown_line(heap: Global, text: &[u8], place: usize) -> anyhow::Result<String> {
     let line = line_around(text, place);
-    let start = line.start;
     let mut shown = String::new(heap);
-    for b in &text[line] {
+    for b in &text[line.from..line.to] {
         let printed = *b == b' ' || b.is_ascii_graphic();
         shown.push(if printed { char::from(*b) } else { '.' })?;
     }
     shown.push('\n')?;
-    let indent = " ".repeat(heap, place.min(text.len()) - start)?;
-    shown.push_str(indent.as_str())?;
+    // One by one, and no `repeat`, whose text would stand beside a long line.
+    for _ in line.from..place.min(text.len()) {
+        shown.push(' ')?;
+    }
     shown.push('^')?;
     Ok(shown)
 }
@@ -95,7 +103,8 @@ fn refused_steps(rt: &HostRuntime, lines: &[u8], fault: StepFault) -> anyhow::Re
 /// One line for each position of a row.
 fn table(
     heap: Global,
-    cells: &Grid<(Truth, Pair)>,
+    values: &Grid<Truth>,
+    counts: &Grid<Pair>,
     row: usize,
     n: usize,
 ) -> anyhow::Result<String> {
@@ -103,7 +112,9 @@ fn table(
     writeln!(text, "position s f value")?;
     // A range, since `i` is the position that is printed.
     for i in 1..=n.saturating_add(1) {
-        let (value, pair) = cells.get(row, i).ok_or(anyhow!("a row has no cell"))?;
+        let (Some(value), Some(pair)) = (values.get(row, i), counts.get(row, i)) else {
+            return Err(anyhow!("a row has no cell"));
+        };
         let s = pair.s;
         let f = pair.f;
         if i <= n {
@@ -125,25 +136,44 @@ fn report<R: Recording>(
     let heap = rt.alloc();
     let rows = formula.row_count();
     let n = recording.len();
-    let mut cells = judged(heap, formula, recording)?;
-    let cells = Grid::new(cells.as_mut_slice(), rows, n + 1);
-    let text = table(heap, &cells, formula.watch(), n)?;
+    let (mut values, mut counts) = values_and_counts(heap, formula, recording)?;
+    let values = Grid::new(values.as_mut_slice(), rows, n + 1);
+    let counts = Grid::new(counts.as_mut_slice(), rows, n + 1);
+    let text = table(heap, &values, &counts, formula.watch(), n)?;
     rt.print(text.as_str())?;
     let width = formula.width();
     eprintln!(rt; "sheetcheck: {width} signals, {rows} rows, {n} steps")?;
     Ok(ExitCode::SUCCESS)
 }
 
-/// Judges a sheet over the steps that the lines tell.
-fn judge_steps(rt: &HostRuntime, signals: SheetSignals, lines: &[u8]) -> anyhow::Result<ExitCode> {
-    let formula = &signals.sheet.formula;
+/// Records the steps that the lines tell, by the signals of a sheet that was read from `text`.
+// Beside `record_lines`: what it promises of the sheet, its text and the lines, which meet here, is its own.
+fn record_steps<R: Recorder>(
+    recorder: &mut R,
+    sheet: &Sheet,
+    text: &[u8],
+    lines: &[u8],
+) -> Result<(), StepFault>
+    ensures { Recorded (signal_named (reading_of sheet.now) text.now) (λ s. record_answer (R.Recording.width recorder.new) (R.Recorder.room recorder.new s) (length (R.Recording.steps recorder.new)) s) (parts 10 0 lines.now) (R.Recording.steps recorder.old) (R.Recording.steps recorder.new) result }
+{
+    record_lines(recorder, &SheetSignals { sheet, text }, lines)
+}
+
+/// Judges a sheet that was read from `text` over the steps that the lines tell.
+fn judge_steps(
+    rt: &HostRuntime,
+    sheet: &Sheet,
+    text: &[u8],
+    lines: &[u8],
+) -> anyhow::Result<ExitCode> {
+    let formula = &sheet.formula;
     let mut words = vec![in rt.alloc(); 0u32; LIMIT]?;
     // Not `map_err(..)?`: the error holds the words that were handed in, and no proof is made of a closure over it.
     let mut recorder = match PlainRecorder::open(formula.width(), words.as_mut_slice()) {
         Ok(recorder) => recorder,
         Err(refused) => return Err(refused.fault.into()),
     };
-    match record_lines(&mut recorder, &signals, lines) {
+    match record_steps(&mut recorder, sheet, text, lines) {
         Ok(()) => report(rt, formula, &recorder),
         Err(fault) => refused_steps(rt, lines, fault),
     }
@@ -155,14 +185,7 @@ fn judge(rt: &HostRuntime, input: &[u8]) -> anyhow::Result<ExitCode> {
     let text = &input[..split.sheet];
     let lines = &input[split.steps..];
     match read(text) {
-        Ok(sheet) => judge_steps(
-            rt,
-            SheetSignals {
-                sheet: &sheet,
-                text,
-            },
-            lines,
-        ),
+        Ok(sheet) => judge_steps(rt, &sheet, text, lines),
         Err(fault) => {
             let refusal = fault.refusal();
             tell(rt, refusal, text, refusal.place, &fault)

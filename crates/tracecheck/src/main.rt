@@ -6,7 +6,7 @@ mod signals;
 
 use anyhow::anyhow;
 use bench::bench;
-use heap_grid::cells::judged;
+use heap_grid::cells::values_and_counts;
 use ltl::formula::Formula;
 use recorder::plain::{LIMIT, PlainRecorder};
 use recorder::recording::{Recorder, Recording};
@@ -62,11 +62,14 @@ fn rows_at(
     text: &mut String,
     heap: Global,
     formula: &Formula,
-    cells: &Grid<(Truth, Pair)>,
+    values: &Grid<Truth>,
+    counts: &Grid<Pair>,
     i: usize,
 ) -> anyhow::Result<()> {
     for (r, row) in formula.rows().iter().enumerate() {
-        let (value, pair) = cells.get(r, i).ok_or(anyhow!("a row has no cell"))?;
+        let (Some(value), Some(pair)) = (values.get(r, i), counts.get(r, i)) else {
+            return Err(anyhow!("a row has no cell"));
+        };
         let row = format!(in heap; "{row}")?;
         let value = format!(in heap; "{value}")?;
         writeln!(text, "  row {r}  {row:<14} {value:<10} {pair}")?;
@@ -78,8 +81,10 @@ fn rows_at(
 // Formula and recording stay two parameters, as at `evaluate`.
 fn report<R: Recording>(heap: Global, formula: &Formula, recording: &R) -> anyhow::Result<String> {
     let n = recording.len();
-    let mut cells = judged(heap, formula, recording)?;
-    let cells = Grid::new(cells.as_mut_slice(), formula.row_count(), n + 1);
+    let rows = formula.row_count();
+    let (mut values, mut counts) = values_and_counts(heap, formula, recording)?;
+    let values = Grid::new(values.as_mut_slice(), rows, n + 1);
+    let counts = Grid::new(counts.as_mut_slice(), rows, n + 1);
     let mut text = String::new(heap);
     let watch = formula.watch();
     writeln!(
@@ -94,7 +99,7 @@ fn report<R: Recording>(heap: Global, formula: &Formula, recording: &R) -> anyho
         } else {
             writeln!(text, "position {i}, after the last step")?;
         }
-        rows_at(&mut text, heap, formula, &cells, i)?;
+        rows_at(&mut text, heap, formula, &values, &counts, i)?;
     }
     writeln!(text, "steps accepted: {n}")?;
     Ok(text)
